@@ -10,6 +10,8 @@ pub mod SameLemmas
 mod Worked
 pub mod WalkLemmas
 pub mod WindowLemmas
+pub mod Behind
+pub mod InRows
 pub mod RunLemmas
 pub mod PutLemmas
 pub mod ReaderLemmas

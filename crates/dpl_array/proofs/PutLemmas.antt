@@ -11,6 +11,7 @@ use Rattle.dpl_array.specs.Arrays.{PieceValue, PiecesValue, ArePieces, IsWhole, 
 use Rattle.dpl_array.specs.PieceFields.{kept_at, IsKept}
 use Rattle.dpl_array.specs.PiecesFields.{slot_of, AreHeld, IsPieceOf}
 use Rattle.dpl_array.specs.Rows.{row_of, set_side_by_side, set_some}
+use Rattle.dpl_array.specs.declared.row.Row.{Row}
 use Rattle.dpl_array.proofs.ElementLemmas.{over-some, over-stands, over-with_value}
 use Rattle.dpl_array.proofs.HeldLemmas.{held-set, held-unwritten, held-written, in-place}
 use Rattle.dpl_array.proofs.PieceLemmas.{piece-set, places-alone}
@@ -42,7 +43,7 @@ module _ {T : Type 0} (domain : List RangeValue) (axes : List AxisValue) (locale
   kept-over : (vs : List T) → length vs ≡ length values → IsKept domain axes locale parts starts (length vs)
   kept-over vs long = subst (IsKept domain axes locale parts starts) (sym long) kept
 
-  module _ (place size : ℕ) (t : List ℤ) (runs : RunsFrom (row_of parts) place size t) where
+  module _ (place size : ℕ) (t : Row) (runs : RunsFrom (row_of parts) place size t) where
     -- there is a value at each index behind
     pub run-there : (k : ℕ) → k < size → is_some (value_at (behind k t) (piece_over values).elements) ≡ true
     run-there k below =
@@ -66,7 +67,7 @@ module _ {T : Type 0} (domain : List RangeValue) (axes : List AxisValue) (locale
         ∙ ap (put_some piece_with (behind k t) (slice_get new k)) (put-piece new k (omega (arith, most)))
 
 -- INTO THE PIECE OF A LOCALE
-module _ {T : Type 0} (domain : List RangeValue) (axes : List AxisValue) (l : ℕ) (t : List ℤ) (new : List T) where
+module _ {T : Type 0} (domain : List RangeValue) (axes : List AxisValue) (l : ℕ) (t : Row) (new : List T) where
   fits-one : (k : ℕ) (o : Option T) (p : PieceValue T) → IsPieceOf domain axes l p → IsPieceOf domain axes l (put_some piece_with (behind k t) o p)
   fits-one k None p fit = fit
   fits-one k (Some v) p fit = record { is = ap (piece_with (behind k t) v) fit.is; over = over-with_value (part domain axes l) p.elements (behind k t) v fit.over }
@@ -118,7 +119,7 @@ module _ {T : Type 0} (domain : List RangeValue) (axes : List AxisValue) (l : �
     put-shown n each q is = ap (λ r. shown (slice_set held l (Some r))) is ∙ shown-row n each
 
 -- INTO THE UNION OF PIECES
-module _ {T : Type 0} (t : List ℤ) (new : List T) where
+module _ {T : Type 0} (t : Row) (new : List T) where
   formed-one : (k : ℕ) (o : Option T) (ps : PiecesValue T) → ArePieces ps → ArePieces (put_some written_at (behind k t) o ps)
   formed-one k None ps formed = formed
   formed-one k (Some v) ps formed = written-formed ps formed (behind k t) v

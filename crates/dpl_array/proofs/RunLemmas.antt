@@ -1,5 +1,5 @@
--- Values side by side: at an index and at those behind it in its last dimension.
--- The places of a row that lie behind one another have them, on a line and in a row of a plane.
+-- Values side by side: at the indices of a row.
+-- The places of a part that lie behind one another have them.
 use Rattle.std.proofs.Common.{◌≡◌, ◌<◌, ◌≤◌, ◌+◌, ◌-◌, ℕ, zero, suc, ℤ, pos, ◌+ℤ◌, List, [], ◌∷◌, length, slice_get, slice_range, take, drop, Some, refl, ap, sym, ◌∙◌, arith}
 use Rattle.std.proofs.lemmas.Option.{none-some}
 use Rattle.dpl_sets.specs.Ranges.{RangeValue}
@@ -8,7 +8,7 @@ use Rattle.dpl_map.specs.Parts.{part}
 use Rattle.dpl_array.specs.Elements.{behind, tabulated, IsRunOf}
 use Rattle.dpl_array.specs.PieceFields.{kept_at, IsKept}
 use Rattle.dpl_array.specs.Rows.{row_of}
-use Rattle.dpl_array.specs.Windows.{IsPlaceOn, StandsOnLine, StandsOnPlane}
+use Rattle.dpl_array.specs.declared.row.Row.{Row}
 use Rattle.dpl_array.proofs.WindowLemmas.{value-found}
 
 module _ {T : Type 0} where
@@ -30,26 +30,12 @@ module _ {T : Type 0} where
       let cut = taken-some (drop place xs) (end - place) k v some in
       (cut.0, sym (dropped xs place k) ∙ cut.1)
 
--- so many places of a row from one on have an index and those behind it
-abbrev pub RunsFrom : List (List ℤ) → ℕ → ℕ → List ℤ → Type 0
+-- so many places from one on have the indices of a row
+abbrev pub RunsFrom : List (List ℤ) → ℕ → ℕ → Row → Type 0
 RunsFrom row place size t = (k : ℕ) → k < size → slice_get row (place + k) ≡ Some (behind k t)
 
-pub runs-on_line : (row : List (List ℤ)) (low : ℤ) (long : ℕ) → StandsOnLine row low long → (place size : ℕ) (z : ℤ) → ((k : ℕ) → k < size → (place + k < long) × (z +ℤ pos k ≡ low +ℤ pos (place + k))) → (t : List ℤ) → t ≡ z ∷ [] → RunsFrom row place size t
-runs-on_line row low long on place size z run t is k below =
-    let at = run k below in
-    on (place + k) at.0 ∙ ap (λ i. Some (i ∷ [])) (sym at.1) ∙ ap (λ t. Some (behind k t)) (sym is)
-
-pub runs-on_plane : (row : List (List ℤ)) (top : ℤ) (rows : ℕ) (left : ℤ) (columns : ℕ) → StandsOnPlane row top rows left columns → (place size : ℕ) (y z : ℤ) → ((k : ℕ) → k < size → IsPlaceOn top rows left columns y (z +ℤ pos k) (place + k)) → (t : List ℤ) → t ≡ y ∷ z ∷ [] → RunsFrom row place size t
-runs-on_plane row top rows left columns on place size y z run t is k below =
-    let at = run k below in
-    ap (slice_get row) at.place_is
-    ∙ on at.row at.column at.row_below at.column_below
-    ∙ ap (λ i. Some (i ∷ (left +ℤ pos at.column) ∷ [])) (sym at.row_at)
-    ∙ ap (λ j. Some (y ∷ j ∷ [])) (sym at.column_at)
-    ∙ ap (λ t. Some (behind k t)) (sym is)
-
-module _ {T : Type 0} (domain : List RangeValue) (axes : List AxisValue) (locale : ℕ) (parts : List (List RangeValue)) (starts : List ℕ) (values : List T) (kept : IsKept domain axes locale parts starts (length values)) (place size : ℕ) (t : List ℤ) (runs : RunsFrom (row_of parts) place size t) where
-  -- the values there are those of the index and of those behind it
+module _ {T : Type 0} (domain : List RangeValue) (axes : List AxisValue) (locale : ℕ) (parts : List (List RangeValue)) (starts : List ℕ) (values : List T) (kept : IsKept domain axes locale parts starts (length values)) (place size : ℕ) (t : Row) (runs : RunsFrom (row_of parts) place size t) where
+  -- the values there are those of the row's indices
   pub run-values : (end : ℕ) → end ≤ place + size → IsRunOf (tabulated (part domain axes locale) (kept_at parts values)) t (slice_range values place end)
   run-values end most k v some =
       let at = part-some values place end k v some in

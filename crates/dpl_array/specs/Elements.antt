@@ -1,8 +1,9 @@
 -- Elements: a finite map from indices to values.
 -- It is a list of pairs, so that it can be read in order, with a search by index.
-use Rattle.std.specs.Prelude.{◌≡◌, ℕ, zero, suc, ℤ, pos, ◌+ℤ◌, List, [], ◌∷◌, Bool, true, false, ◌&&◌, ◌==◌, Option, Some, None, map, filter, slice_get, if◌then◌else◌}
+use Rattle.std.specs.Prelude.{◌≡◌, ℕ, zero, suc, ℤ, pos, ◌+ℤ◌, ◌*ℤ◌, List, [], ◌∷◌, Bool, true, false, ◌&&◌, ◌==◌, Option, Some, None, map, filter, slice_get, if◌then◌else◌}
 use Rattle.std.specs.Ordering.{int_eq}
 use Rattle.dpl_map.specs.Maps.{AxisValue, owner}
+use Rattle.dpl_array.specs.declared.row.Row.{Row}
 
 -- A finite map from indices to values is the list of its elements: each is an index with the value there.
 abbrev pub Elements : Type 0 → Type 0
@@ -15,11 +16,15 @@ same_index [] (j ∷ js) = false
 same_index (i ∷ is) [] = false
 same_index (i ∷ is) (j ∷ js) = int_eq i j && same_index is js
 
--- the index that lies so far behind another in the last dimension
-abbrev pub behind : ℕ → List ℤ → List ℤ
-behind k [] = []
-behind k (i ∷ []) = (i +ℤ pos k) ∷ []
-behind k (i ∷ j ∷ is) = i ∷ behind k (j ∷ is)
+-- the index that lies so far from another along the last dimension
+abbrev pub along : ℤ → List ℤ → List ℤ
+along d [] = []
+along d (i ∷ []) = (i +ℤ d) ∷ []
+along d (i ∷ j ∷ is) = i ∷ along d (j ∷ is)
+
+-- the index of a row that stands so many behind its first
+abbrev pub behind : ℕ → Row → List ℤ
+behind k row = along (row.step *ℤ pos k) row.first
 
 -- the value at an index, if the map has the index
 abbrev pub value_at : {T : Type 0} → List ℤ → Elements T → Option T
@@ -57,17 +62,16 @@ pub record IsOver {T : Type 0} (ts : List (List ℤ)) (es : Elements T) : Type 0
   pub keys : keys_of es ≡ ts
   pub values : tabulated ts (λ t. value_at t es) ≡ es
 
--- the values of a row stand at an index and at those behind it in the last dimension
-abbrev pub IsRunOf : {T : Type 0} → Elements T → List ℤ → List T → Type 0
-IsRunOf {T = T} es t values = (k : ℕ) (v : T) → slice_get values k ≡ Some v → value_at (behind k t) es ≡ Some v
+-- values stand at the first indices of a row
+abbrev pub IsRunOf : {T : Type 0} → Elements T → Row → List T → Type 0
+IsRunOf {T = T} es row values = (k : ℕ) (v : T) → slice_get values k ≡ Some v → value_at (behind k row) es ≡ Some v
 
 -- what putting a value, where there is one, makes of something
 abbrev pub put_some : {M T : Type 0} → (List ℤ → T → M → M) → List ℤ → Option T → M → M
 put_some put t None m = m
 put_some put t (Some v) m = put t v m
 
--- The first values of a list, so many of them, put one after another: each at the index that lies so far behind another in the last
--- dimension.
-abbrev pub put_in_row : {M T : Type 0} → (List ℤ → T → M → M) → List ℤ → List T → ℕ → M → M
-put_in_row put t vs zero m = m
-put_in_row put t vs (suc k) m = put_some put (behind k t) (slice_get vs k) (put_in_row put t vs k m)
+-- the first values of a list, so many of them, put one after another, each at its index of a row
+abbrev pub put_in_row : {M T : Type 0} → (List ℤ → T → M → M) → Row → List T → ℕ → M → M
+put_in_row put row vs zero m = m
+put_in_row put row vs (suc k) m = put_some put (behind k row) (slice_get vs k) (put_in_row put row vs k m)

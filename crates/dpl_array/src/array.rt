@@ -8,6 +8,7 @@ ghost use Rattle.dpl_array.specs.Elements.{value_at, behind, put_in_row, IsRunOf
 ghost use Rattle.dpl_array.specs.Arrays.{IsArray, IsSmallArray, IsWhole, array_with, filled_array, pieces_of, restriction, union};
 
 use crate::coordinates::Coordinates;
+use crate::row::Row;
 use crate::{Piece, Pieces};
 use dpl_domain::{Domain, Index};
 use dpl_map::Map;
@@ -102,14 +103,14 @@ impl<T: Copy> DArray<T> {
         self.pieces.guessed(at)
     }
 
-    /// Values at an index and at those behind it in its last dimension, as they stand side by side in a piece: of rank 1 and 2 those up
-    /// to the end of the piece's part or of its row, where the part is one domain of stride 1. Of another part or index there may be
-    /// none, though the array has the index.
+    /// Values at the indices of a row, as they stand side by side in a piece: those up to the end of the piece's row, where its part is one
+    /// domain whose last dimension has the row's step as its stride. Of another part or row there may be none, though the array has the
+    /// index.
     #[inline(always)]
-    pub fn run(&self, index: Index) -> &[T]
-        ensures { IsRunOf self.now.elements index result.now }
+    pub fn run(&self, row: Row) -> &[T]
+        ensures { IsRunOf self.now.elements row result.now }
     {
-        self.pieces.run(index)
+        self.pieces.run(row)
     }
 
     // The value, if the array has the index.
@@ -150,16 +151,16 @@ impl<T: Copy> DArray<T> {
         self.set_at(&index, value)
     }
 
-    /// Puts the first of some values at an index and at those behind it in its last dimension, as many as stand side by side in a piece,
-    /// and answers how many were put: of rank 1 and 2 at most those up to the end of the piece's part or of its row, where the part is one
-    /// domain of stride 1. Of another part or index there may be none, though the array has the index.
+    /// Puts the first of some values at the indices of a row, as many as stand side by side in a piece, and answers how many were put: at
+    /// most those up to the end of the piece's row, where its part is one domain whose last dimension has the row's step as its stride. Of
+    /// another part or row there may be none, though the array has the index.
     #[inline(always)]
-    pub fn set_run(&mut self, index: Index, values: &[T]) -> usize
+    pub fn set_run(&mut self, row: Row, values: &[T]) -> usize
         ensures most { result ≤ length values.now }
-        ensures there { (k : ℕ) → k < result → is_some (value_at (behind k index) self.old.elements) ≡ true }
-        ensures changes { self.new ≡ put_in_row array_with index values.now result self.old }
+        ensures there { (k : ℕ) → k < result → is_some (value_at (behind k row) self.old.elements) ≡ true }
+        ensures changes { self.new ≡ put_in_row array_with row values.now result self.old }
     {
-        self.pieces.set_run(index, values)
+        self.pieces.set_run(row, values)
     }
 
     /// The piece of a locale, if the map has the locale.

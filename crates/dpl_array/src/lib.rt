@@ -5,7 +5,8 @@
 // reads and writes are proved once for an index and for plain coordinates. A read guesses the piece (seats.rt), and nobody has to believe
 // it: where the piece doesn't hold the index its owner is computed. Where a part is one domain of stride 1 the piece keeps its spans
 // (spans.rt), and a place on a line or a plane is one test for each dimension and a multiplication; a reader keeps the piece of the last
-// read as plain numbers (window.rt). Else the part's domains are asked.
+// read as plain numbers (window.rt). Else the part's domains are asked. A row (row.rt) has indices that follow one another, whatever their
+// stride is: where a piece's part is one domain with that stride, their values stand side by side, and are lent and put so.
 #![tactic(auto)]
 
 mod array;
@@ -18,6 +19,7 @@ mod place;
 mod reader;
 mod redomain;
 mod row;
+mod row_walk;
 mod same;
 mod seats;
 mod span;
@@ -30,4 +32,5 @@ pub use piece::Piece;
 pub use piece_walk::PieceWalk;
 pub use pieces::Pieces;
 pub use reader::Reader;
+pub use row::Row;
 pub use walk::Walk;

@@ -9,7 +9,8 @@ ghost use Rattle.dpl_array.specs.Arrays.{IsPiece, piece_with};
 ghost use Rattle.dpl_array.specs.Rows.{set_side_by_side};
 
 use crate::coordinates::Coordinates;
-use crate::place::{each_once, place_in, starts_of};
+use crate::place::{each_once, place_in, run_in, starts_of};
+use crate::row::Row;
 use crate::spans::Spans;
 use dpl_domain::{Domain, Index};
 use dpl_map::Map;
@@ -142,14 +143,13 @@ impl<T: Copy> Piece<T> {
         self.get(index)
     }
 
-    /// Values at an index and at those behind it in its last dimension, as they stand side by side: of rank 1 and 2 those up to the end of
-    /// the piece's part or of its row, where the part is one domain of stride 1. Of another part or index there may be none, though the
-    /// piece has the index.
+    /// Values at the indices of a row, as they stand side by side: those up to the end of the row, where the piece's part is one domain
+    /// whose last dimension has the row's step as its stride. Of another part or row there may be none, though the piece has the index.
     #[inline(always)]
-    pub fn run(&self, index: Index) -> &[T]
-        ensures { IsRunOf self.now.elements index result.now }
+    pub fn run(&self, row: Row) -> &[T]
+        ensures { IsRunOf self.now.elements row result.now }
     {
-        let (place, size) = self.spans.run(index);
+        let (place, size) = run_in(&self.parts, row);
         let end = place.wrapping_add(size);
         match self.values.get(place..end) {
             Some(values) => values,
@@ -197,16 +197,16 @@ impl<T: Copy> Piece<T> {
         self.set(index, value)
     }
 
-    /// Puts the first of some values at an index and at those behind it in its last dimension, as many as stand side by side, and answers
-    /// how many were put: of rank 1 and 2 at most those up to the end of the piece's part or of its row, where the part is one domain of
-    /// stride 1. Of another part or index there may be none, though the piece has the index.
+    /// Puts the first of some values at the indices of a row, as many as stand side by side, and answers how many were put: at most those up
+    /// to the end of the row, where the piece's part is one domain whose last dimension has the row's step as its stride. Of another part or
+    /// row there may be none, though the piece has the index.
     #[inline(always)]
-    pub fn set_run(&mut self, index: Index, values: &[T]) -> usize
+    pub fn set_run(&mut self, row: Row, values: &[T]) -> usize
         ensures most { result ≤ length values.now }
-        ensures there { (k : ℕ) → k < result → is_some (value_at (behind k index) self.old.elements) ≡ true }
-        ensures changes { self.new ≡ put_in_row piece_with index values.now result self.old }
+        ensures there { (k : ℕ) → k < result → is_some (value_at (behind k row) self.old.elements) ≡ true }
+        ensures changes { self.new ≡ put_in_row piece_with row values.now result self.old }
     {
-        let (place, size) = self.spans.run(index);
+        let (place, size) = run_in(&self.parts, row);
         let size = size.min(values.len());
         set_side_by_side(&mut self.values, place, values, size);
         size

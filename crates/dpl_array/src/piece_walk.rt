@@ -6,7 +6,7 @@ ghost use Rattle.dpl_map.specs.Axes.{AreSingle};
 ghost use Rattle.dpl_array.specs.Arrays.{IsWalkOf};
 
 use crate::Piece;
-use crate::row::RowWalk;
+use crate::row_walk::RowWalk;
 use dpl_domain::Index;
 use std::marker::Model;
 

@@ -10,6 +10,7 @@ ghost use Rattle.dpl_array.specs.Arrays.{ArePieces, IsWhole, IsSmallArray, fille
 
 use crate::Piece;
 use crate::coordinates::{Coordinates, Strided};
+use crate::row::Row;
 use crate::same::same_domain;
 use crate::seats::Seats;
 use dpl_domain::{Domain, Index};
@@ -179,16 +180,15 @@ impl<T: Copy> Pieces<T> {
         self.held.get(seat)?.as_ref()?.quick(at)
     }
 
-    // What the piece that stands where the owner's seems to stand holds at an index and at those behind it, as far as it is found
-    // without a search.
+    // What the piece that stands where the owner's seems to stand holds at the indices of a row, as far as it is found without a search.
     #[inline(always)]
-    pub(crate) fn run(&self, index: Index) -> &[T]
-        ensures { (k : ℕ) (v : T) → slice_get result.now k ≡ Some v → held_at self.now (behind k index) ≡ Some v }
+    pub(crate) fn run(&self, row: Row) -> &[T]
+        ensures { (k : ℕ) (v : T) → slice_get result.now k ≡ Some v → held_at self.now (behind k row) ≡ Some v }
     {
-        let Some(Some(piece)) = self.held.get(self.seats.guess(index)) else {
+        let Some(Some(piece)) = self.held.get(self.seats.guess(row.first)) else {
             return &[];
         };
-        piece.run(index)
+        piece.run(row)
     }
 
     // What the piece of the owner holds at an index.
@@ -240,22 +240,22 @@ impl<T: Copy> Pieces<T> {
         piece.quick_set(at, value)
     }
 
-    // Puts the first of some values, at an index and at those behind it, into the piece that stands where the owner's seems to stand, as
-    // far as their places there are found without a search.
+    // Puts the first of some values, at the indices of a row, into the piece that stands where the owner's seems to stand, as far as their
+    // places there are found without a search.
     #[inline(always)]
-    pub(crate) fn set_run(&mut self, index: Index, values: &[T]) -> usize
+    pub(crate) fn set_run(&mut self, row: Row, values: &[T]) -> usize
         ensures most { result ≤ length values.now }
-        ensures there { (k : ℕ) → k < result → is_some (held_at self.old (behind k index)) ≡ true }
-        ensures changes { self.new ≡ put_in_row written_at index values.now result self.old }
+        ensures there { (k : ℕ) → k < result → is_some (held_at self.old (behind k row)) ≡ true }
+        ensures changes { self.new ≡ put_in_row written_at row values.now result self.old }
     {
-        let seat = self.seats.guess(index);
+        let seat = self.seats.guess(row.first);
         if seat >= self.held.len() {
             return 0;
         }
         let Some(piece) = &mut self.held[seat] else {
             return 0;
         };
-        piece.set_run(index, values)
+        piece.set_run(row, values)
     }
 
     // Puts a value at an index into the piece of the owner, if it has the index.

@@ -1,11 +1,13 @@
 // Where an index stands in the row of a part's domains.
 // The row has the indices of the first domain, then those of the second, and so on; each domain has its start.
 
-ghost use Rattle.std.specs.Prelude.{◌≡◌, ◌≤◌, ◌^◌, ◌↔◌, ℕ, Some, IfOk, IfSome, slice_get, length};
+ghost use Rattle.std.specs.Prelude.{◌≡◌, ◌≤◌, ◌<◌, ◌+◌, ◌^◌, ◌↔◌, ℕ, Some, IfOk, IfSome, slice_get, length};
 ghost use Rattle.dpl_map.specs.Orders.{ArePart};
 ghost use Rattle.dpl_sets.specs.Indices.{indices};
+ghost use Rattle.dpl_array.specs.Elements.{behind};
 ghost use Rattle.dpl_array.specs.Rows.{row_of, AreStarts, IsDistinct};
 
+use crate::row::Row;
 use dpl_domain::{Domain, Index};
 use dpl_map::Map;
 use std::alloc::{AllocError, Global};
@@ -42,6 +44,24 @@ pub(crate) fn place_alone(parts: &[Domain], index: Index) -> Option<usize>
         return None;
     };
     Some(part.place(index)? as usize)
+}
+
+/// The place of a row's first index in the row of a part that is one domain, and in how many places from it on stand the indices of the row,
+/// one after another. None where the part has more domains, or its last dimension another stride than the row's step.
+pub(crate) fn run_in(parts: &[Domain], row: Row) -> (usize, usize)
+    ensures { (k : ℕ) → k < result.1 → slice_get (row_of parts.now) (result.0 + k) ≡ Some (behind k row) }
+{
+    let [part] = parts else {
+        return (0, 0);
+    };
+    let Some(place) = part.place(row.first) else {
+        return (0, 0);
+    };
+    let (own, left) = Row::of(part, row.first, place);
+    if own.step != row.step {
+        return (0, 0);
+    }
+    (place as usize, left as usize)
 }
 
 /// Where the indices of each domain begin in the row of a part's domains, and how long the row is.

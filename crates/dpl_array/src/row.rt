@@ -1,44 +1,36 @@
-// A walk over the indices of several domains, those of one after those of another.
-// It begins a domain where the one before it has ended, so that no index is looked up.
+// Rows: indices that follow one another in the last dimension, each as far from the one before it.
+// A row of a domain goes on to the end of its last dimension, and what a part owns of it stands side by side in the part's piece.
 
-ghost use Rattle.std.specs.Prelude.{◌≡◌, slice_get, drop};
+ghost use Rattle.std.specs.Prelude.{◌≡◌, ◌+◌, ◌<◌, ℕ, Some, slice_get};
+ghost use Rattle.dpl_sets.specs.Indices.{indices};
+ghost use Rattle.dpl_array.specs.Elements.{behind};
 
-use dpl_domain::{Cursor, Domain, Index};
-use std::marker::Model;
+use dpl_domain::{Domain, Index};
 
-/// What is left of a walk over the indices of several domains, each of which has an index, seen as the list of those that
-/// are still to come.
-#[derive(Drop)]
-pub(crate) struct RowWalk<'a> {
-    pub(crate) indices: Cursor,
-    pub(crate) domains: &'a [Domain],
-    pub(crate) number: usize,
+/// Indices one behind another in the last dimension: the first one, and how far each lies from the one before it.
+#[derive(Clone, Copy)]
+pub struct Row {
+    pub first: Index,
+    pub step: i64,
 }
 
-impl<'a> Model for RowWalk<'a> {
-    ghost use Rattle.std.specs.Prelude.{List, ℤ, ◌++◌, drop};
-
-    ghost Value = { List (List ℤ) };
-
-    ghost use Rattle.dpl_array.specs.Rows.{row_of, AreSome};
-
-    ghost view = { λ w. w.indices ++ row_of (drop w.number w.domains.now) };
-
-    ghost invariant = { λ w. AreSome w.domains.now };
-}
-
-impl<'a> RowWalk<'a> {
-    // The next index, which is then gone over, or `None` at the end and from then on.
-    pub(crate) fn next(&mut self) -> Option<Index>
-        ensures next { result ≡ slice_get self.old 0 }
-        ensures rest { self.new ≡ drop 1 self.old }
+impl Row {
+    /// The row of a domain from an index on, which stands at a place; and how many of its indices the domain has from there on, one place
+    /// after another.
+    pub fn of(domain: &Domain, first: Index, place: u64) -> (Row, u64)
+        requires { slice_get (indices domain.now) place ≡ Some first }
+        ensures first { result.0.first ≡ first }
+        ensures there { (k : ℕ) → k < result.1 → slice_get (indices domain.now) (place + k) ≡ Some (behind k result.0) }
     {
-        if let Some(index) = self.indices.next() {
-            return Some(index);
+        let (_, _, inner) = domain.ranges();
+        let row = Row {
+            first,
+            step: inner.stride(),
+        };
+        let size = inner.size();
+        if size == 0 {
+            return (row, 0);
         }
-        let domain = self.domains.get(self.number)?;
-        self.number += 1;
-        self.indices = domain.cursor();
-        self.indices.next()
+        (row, size - place % size)
     }
 }

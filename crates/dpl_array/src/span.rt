@@ -56,17 +56,6 @@ impl Span {
             None
         }
     }
-
-    /// How far an integer lies behind the low one, and how many integers there are from it on; none of one that is none of them.
-    #[inline(always)]
-    pub(crate) fn run(&self, i: i64) -> (usize, usize)
-        ensures { (k : ℕ) → k < result.1 → (result.0 + k < self.now.size) × (i +ℤ pos k ≡ self.now.low +ℤ pos (result.0 + k)) }
-    {
-        match self.offset(i) {
-            Some(offset) => (offset, self.size - offset),
-            None => (0, 0),
-        }
-    }
 }
 
 impl Grid {
@@ -88,16 +77,5 @@ impl Grid {
         let row = self.rows.offset(i)?;
         let column = self.columns.offset(j)?;
         Some(row * self.columns.size + column)
-    }
-    /// The place of two integers, and how many places there are from it on in their row; none of two that are none of them.
-    #[inline(always)]
-    pub(crate) fn run(&self, i: i64, j: i64) -> (usize, usize)
-        ensures { (k : ℕ) → k < result.1
-            → IsPlaceOn self.now.rows.low self.now.rows.size self.now.columns.low self.now.columns.size i (j +ℤ pos k) (result.0 + k) }
-    {
-        let (Some(row), Some(column)) = (self.rows.offset(i), self.columns.offset(j)) else {
-            return (0, 0);
-        };
-        (row * self.columns.size + column, self.columns.size - column)
     }
 }

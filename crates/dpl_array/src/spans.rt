@@ -2,13 +2,12 @@
 // Elsewhere the spans are empty, and the part itself is searched.
 
 ghost use Rattle.std.specs.Prelude.{◌≡◌, ◌≤◌, ◌<◌, ◌+◌, ◌^◌, ℕ, ℤ, List, [], ◌∷◌, Some, IfSome, length, slice_get};
-ghost use Rattle.dpl_array.specs.Elements.{behind};
 ghost use Rattle.dpl_array.specs.Rows.{row_of};
 ghost use Rattle.dpl_array.specs.Windows.{StandsOnLine, StandsOnPlane};
 ghost use Rattle.dpl_array.specs.Spans.{AreSpansOf};
 
 use crate::span::{Grid, Span};
-use dpl_domain::{Domain, Index};
+use dpl_domain::Domain;
 
 /// The integers of a part of rank 1, and those of a part of rank 2.
 #[derive(Clone, Copy)]
@@ -26,20 +25,6 @@ impl Spans {
         Spans {
             line: line_of(parts),
             grid: grid_of(parts),
-        }
-    }
-
-    /// The place of an index in a row that has these spans, and in how many places from it on stand the indices behind it in its last
-    /// dimension, as far as plain numbers tell it.
-    #[inline(always)]
-    pub(crate) fn run(&self, index: Index) -> (usize, usize)
-        ensures { (row : List (List ℤ)) → AreSpansOf row self.now → (k : ℕ) → k < result.1 → slice_get row (result.0 + k) ≡ Some (behind k index) }
-    {
-        let (_, row, column) = index.numbers();
-        match index.rank() {
-            1 => self.line.run(column),
-            2 => self.grid.run(row, column),
-            _ => (0, 0),
         }
     }
 }

@@ -2,7 +2,7 @@
 // That the values are right is what the contracts say; how many stand side by side no clause says.
 
 use crate::made::{block, cyclic, domain, in_blocks, index, squares};
-use dpl_array::{DArray, Piece, Pieces};
+use dpl_array::{DArray, Piece, Pieces, Row};
 use dpl_domain::{Domain, Index};
 use dpl_map::Map;
 use std::alloc::Global;
@@ -117,32 +117,65 @@ fn strangers(rt: HostRuntime) {
     assert_eq!(&rt; piece.locale(), 1);
 }
 
-// So many values stand side by side from an index on. Each is the one that the array has there.
-fn runs(rt: &impl Abort, array: &DArray<i64>, index: Index, length: usize) {
-    let run = array.run(index);
+// The row from an index on whose indices are so far apart.
+fn row(first: Index, step: i64) -> Row {
+    Row { first, step }
+}
+
+// So many values stand side by side at the indices of a row. Each is the one that the array has there.
+fn runs(rt: &impl Abort, array: &DArray<i64>, from: Row, length: usize) {
+    let run = array.run(from);
     assert_eq!(rt; run.len(), length);
-    let (_, row, column) = index.numbers();
+    let (plane, line, column) = from.first.numbers();
     let mut at = column;
     for value in run {
-        let there = if index.rank() == 1 {
-            array.get_line(at)
-        } else {
-            array.get_plane(row, at)
+        let there = match from.first.rank() {
+            1 => array.get_line(at),
+            2 => array.get_plane(line, at),
+            _ => array.get_space(plane, line, at),
         };
         assert_eq!(rt; there, Some(*value));
-        at = at.wrapping_add(1);
+        at = at.wrapping_add(from.step);
     }
 }
 
-// Of a line they go to the end of the part, where that has the stride 1, and else there are none.
+// Of a line they go to the end of the part, where that is one domain with the row's step as its stride, and else there are none.
 #[test]
 fn runs_of_a_line(rt: HostRuntime) {
     let [whole, blocks, around, in_threes] = maps(&rt, "1..40", 4);
-    for (map, length) in [(whole, 34), (blocks, 4), (around, 0), (in_threes, 0)] {
+    for (map, step, length) in [
+        (whole, 1, 34),
+        (whole, 4, 0),
+        (blocks, 1, 4),
+        (around, 1, 0),
+        (around, 4, 9),
+        (around, -4, 0),
+        (in_threes, 1, 0),
+        (in_threes, 12, 0),
+    ] {
         let array = squares(&rt, rt.alloc(), domain(&rt, "1..40"), map);
-        runs(&rt, &array, index(&rt, &[7]), length);
-        runs(&rt, &array, index(&rt, &[41]), 0);
-        runs(&rt, &array, index(&rt, &[0]), 0);
+        runs(&rt, &array, row(index(&rt, &[7]), step), length);
+        runs(&rt, &array, row(index(&rt, &[41]), step), 0);
+        runs(&rt, &array, row(index(&rt, &[0]), step), 0);
+    }
+}
+
+// Of a domain with a stride they go by it, upwards or downwards, and through a piece by as many strides as it skips.
+#[test]
+fn runs_by_strides(rt: HostRuntime) {
+    let around = cyclic(&rt, &[1], &[2]);
+    for (text, map, from, step, length) in [
+        ("1..40 by 3", Map::whole(), 7, 3, 12),
+        ("1..40 by 3", Map::whole(), 8, 3, 0),
+        ("1..40 by -3", Map::whole(), 7, -3, 3),
+        ("1..40 by -3", Map::whole(), 7, 3, 0),
+        ("1..40 by 3", around, 7, 6, 6),
+        ("1..40 by 3", around, 10, 6, 6),
+        ("1..40 by -3", around, 10, -6, 2),
+        ("-40..-1 by 3", around, -37, 6, 7),
+    ] {
+        let array = squares(&rt, rt.alloc(), domain(&rt, text), map);
+        runs(&rt, &array, row(index(&rt, &[from]), step), length);
     }
 }
 
@@ -152,28 +185,52 @@ fn runs_of_a_plane(rt: HostRuntime) {
     let plane = domain(&rt, "1..3,1..5");
     let mut array = DArray::new(rt.alloc(), plane, Map::whole(), 0).expect(&rt, "memory");
     assert!(&rt; array.set_plane(2, 3, 7));
-    runs(&rt, &array, index(&rt, &[1, 1]), 5);
-    runs(&rt, &array, index(&rt, &[2, 2]), 4);
-    runs(&rt, &array, index(&rt, &[3, 5]), 1);
-    runs(&rt, &array, index(&rt, &[2, 6]), 0);
-    runs(&rt, &array, index(&rt, &[4, 1]), 0);
-    runs(&rt, &array, index(&rt, &[2, 0]), 0);
+    for (i, j, length) in [
+        (1, 1, 5),
+        (2, 2, 4),
+        (3, 5, 1),
+        (2, 6, 0),
+        (4, 1, 0),
+        (2, 0, 0),
+    ] {
+        runs(&rt, &array, row(index(&rt, &[i, j]), 1), length);
+    }
 }
 
-// What an array of squares has at an index when some values were put from another one on.
-fn expected(at: Index, from: Index, values: &[i64], put: usize) -> Option<i64> {
-    let (_, row, first) = from.numbers();
+// And so they do of three dimensions, also where the last one goes round.
+#[test]
+fn runs_of_a_space(rt: HostRuntime) {
+    let space = domain(&rt, "0..1,1..3,1..9");
+    for (map, step, length) in [
+        (Map::whole(), 1, 7),
+        (cyclic(&rt, &[0, 1, 1], &[1, 1, 2]), 2, 4),
+        (cyclic(&rt, &[0, 1, 1], &[1, 3, 1]), 1, 7),
+    ] {
+        let array = squares(&rt, rt.alloc(), space, map);
+        runs(&rt, &array, row(index(&rt, &[1, 2, 3]), step), length);
+        runs(&rt, &array, row(index(&rt, &[1, 2, 10]), step), 0);
+        runs(&rt, &array, row(index(&rt, &[2, 2, 3]), step), 0);
+    }
+}
+
+// What an array of squares has at an index when some values were put at the first indices of a row.
+fn expected(at: Index, from: Row, values: &[i64], put: usize) -> Option<i64> {
+    let (_, line, first) = from.first.numbers();
     let (_, i, j) = at.numbers();
-    let behind = j.wrapping_sub(first).cast_unsigned() as usize;
-    if i == row && behind < put {
+    let distance = j.wrapping_sub(first);
+    let behind = distance
+        .checked_div(from.step)
+        .unwrap_or(-1)
+        .cast_unsigned() as usize;
+    if i == line && distance.checked_rem(from.step) == Some(0) && behind < put {
         values.get(behind).copied()
     } else {
         Some(j.wrapping_mul(j))
     }
 }
 
-// Of some values so many are put side by side from an index on. They stand there then, and beside them still the squares.
-fn puts(rt: &impl Abort, array: &mut DArray<i64>, from: Index, values: &[i64], put: usize) {
+// Of some values so many are put side by side at the indices of a row. They stand there then, and beside them still the squares.
+fn puts(rt: &impl Abort, array: &mut DArray<i64>, from: Row, values: &[i64], put: usize) {
     assert_eq!(rt; array.set_run(from, values), put);
     let mut indices = array.domain().cursor();
     for _ in 0..array.domain().size() {
@@ -182,8 +239,8 @@ fn puts(rt: &impl Abort, array: &mut DArray<i64>, from: Index, values: &[i64], p
     }
 }
 
-// No value, one, three and eight are put from an index on, and at most as many as there are places.
-fn rows_put(rt: &impl Abort, alloc: Global, text: &str, map: Map, from: Index, places: usize) {
+// No value, one, three and eight are put along a row, and at most as many as there are places.
+fn rows_put(rt: &impl Abort, alloc: Global, text: &str, map: Map, from: Row, places: usize) {
     let many = [-1, -2, -3, -4, -5, -6, -7, -8];
     for values in [&many[..0], &many[..1], &many[..3], &many[..8]] {
         let mut array = squares(rt, alloc, domain(rt, text), map);
@@ -191,22 +248,87 @@ fn rows_put(rt: &impl Abort, alloc: Global, text: &str, map: Map, from: Index, p
     }
 }
 
-// On a line they are put up to the end of the part, where that has the stride 1, and else none is.
+// On a line they are put up to the end of the part, where that has the row's step as its stride, and else none is.
 #[test]
 fn rows_put_on_a_line(rt: HostRuntime) {
     let [whole, blocks, around, in_threes] = maps(&rt, "1..40", 4);
-    for (map, there) in [(whole, 4), (blocks, 4), (around, 0), (in_threes, 0)] {
-        rows_put(&rt, rt.alloc(), "1..40", map, index(&rt, &[37]), there);
-        rows_put(&rt, rt.alloc(), "1..40", map, index(&rt, &[41]), 0);
-        rows_put(&rt, rt.alloc(), "1..40", map, index(&rt, &[0]), 0);
+    for (map, step, there) in [
+        (whole, 1, 4),
+        (blocks, 1, 4),
+        (around, 1, 0),
+        (around, 4, 1),
+        (in_threes, 1, 0),
+    ] {
+        rows_put(
+            &rt,
+            rt.alloc(),
+            "1..40",
+            map,
+            row(index(&rt, &[37]), step),
+            there,
+        );
+        rows_put(
+            &rt,
+            rt.alloc(),
+            "1..40",
+            map,
+            row(index(&rt, &[41]), step),
+            0,
+        );
+        rows_put(
+            &rt,
+            rt.alloc(),
+            "1..40",
+            map,
+            row(index(&rt, &[0]), step),
+            0,
+        );
     }
+    rows_put(
+        &rt,
+        rt.alloc(),
+        "1..40",
+        around,
+        row(index(&rt, &[2]), 4),
+        10,
+    );
+    rows_put(
+        &rt,
+        rt.alloc(),
+        "1..40 by -3",
+        Map::whole(),
+        row(index(&rt, &[10]), -3),
+        4,
+    );
 }
 
 // On a plane they are put up to the end of the row.
 #[test]
 fn rows_put_on_a_plane(rt: HostRuntime) {
     let (plane, at) = ("1..3,1..8", index(&rt, &[2, 6]));
-    rows_put(&rt, rt.alloc(), plane, Map::whole(), at, 3);
-    rows_put(&rt, rt.alloc(), plane, block(&rt, plane, &[1, 2]), at, 3);
-    rows_put(&rt, rt.alloc(), plane, cyclic(&rt, &[1, 1], &[1, 2]), at, 0);
+    rows_put(&rt, rt.alloc(), plane, Map::whole(), row(at, 1), 3);
+    rows_put(
+        &rt,
+        rt.alloc(),
+        plane,
+        block(&rt, plane, &[1, 2]),
+        row(at, 1),
+        3,
+    );
+    rows_put(
+        &rt,
+        rt.alloc(),
+        plane,
+        cyclic(&rt, &[1, 1], &[1, 2]),
+        row(at, 1),
+        0,
+    );
+    rows_put(
+        &rt,
+        rt.alloc(),
+        plane,
+        cyclic(&rt, &[1, 1], &[1, 2]),
+        row(at, 2),
+        2,
+    );
 }

@@ -1,6 +1,7 @@
 // How many words stand side by side in an array of a running program, which no clause says.
 
 use crate::made::index;
+use dpl_array::Row;
 use dpl_contents::{ArrayWords, DomainWord, RangeWord};
 use dpl_map::Map;
 use dpl_range::Range;
@@ -21,8 +22,11 @@ fn rows_of_words(rt: HostRuntime) {
     let plane = DomainWord::new(&ranges).expect(&rt, "a domain");
     let made = ArrayWords::new(rt.alloc(), plane, Map::whole(), 4);
     let mut array = made.expect(&rt, "memory");
-    let index = index(&rt, &[2, 1]);
-    assert_eq!(rt; array.set_run(index, &[7, 8, 9, 10]), 3);
-    assert!(rt; array.run(index) == [7, 8, 9].as_slice());
+    let row = Row {
+        first: index(&rt, &[2, 1]),
+        step: 1,
+    };
+    assert_eq!(rt; array.set_run(row, &[7, 8, 9, 10]), 3);
+    assert!(rt; array.run(row) == [7, 8, 9].as_slice());
     assert_eq!(rt; array.get_plane(1, 3), Some(4));
 }

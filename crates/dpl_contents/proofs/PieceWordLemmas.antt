@@ -8,6 +8,7 @@ use Rattle.dpl_language.specs.Values.{Index}
 use Rattle.dpl_memory.specs.Memory.{Held, held_at, held_with}
 use Rattle.dpl_map.specs.Parts.{part}
 use Rattle.dpl_array.specs.Elements.{value_at, keys_of, behind, put_in_row, put_some}
+use Rattle.dpl_array.specs.declared.row.Row.{Row}
 use Rattle.dpl_array.specs.Arrays.{PieceValue, piece_with}
 use Rattle.dpl_array.specs.Rows.{IsDistinct}
 use Rattle.dpl_array.proofs.ElementLemmas.{over-with_value}
@@ -51,7 +52,7 @@ module _ (ranges : List TextRange) (p : PieceValue ℤ) (over : IsPieceOver rang
       (record { domain = over.domain; keys = over-with_value (part p.domain p.map p.locale) p.elements t w over.keys; written = over.written })
 
 -- WORDS PUT SIDE BY SIDE, by their count
-module _ (ranges : List TextRange) (t : Index) (words : List ℤ) where
+module _ (ranges : List TextRange) (t : Row) (words : List ℤ) where
   over-one : (k : ℕ) (o : Option ℤ) (p : PieceValue ℤ) → IsPieceOver ranges p → IsPieceOver ranges (put_some piece_with (behind k t) o p)
   over-one k None p over = over
   over-one k (Some w) p over = over-piece_with ranges p over (behind k t) w (piece_with (behind k t) w p) refl

@@ -2,14 +2,14 @@
 -- Each lemma is by the count of the words that are put.
 use Rattle.std.proofs.Common.{◌≡◌, ℕ, zero, suc, List, ℤ, slice_get, Option, Some, None, refl, ap, ◌∙◌}
 use Rattle.dpl_sets.specs.TextRanges.{TextRange}
-use Rattle.dpl_language.specs.Values.{Index}
 use Rattle.dpl_memory.specs.Memory.{held_with}
 use Rattle.dpl_array.specs.Elements.{behind, put_in_row, put_some}
+use Rattle.dpl_array.specs.declared.row.Row.{Row}
 use Rattle.dpl_array.specs.Arrays.{ArrayValue, array_with}
 use Rattle.dpl_contents.specs.Arrays.{IsArrayOver}
 use Rattle.dpl_contents.proofs.Words.{held_with-is, over-with, seen}
 
-module _ (ranges : List TextRange) (t : Index) (words : List ℤ) where
+module _ (ranges : List TextRange) (t : Row) (words : List ℤ) where
   over-one : (k : ℕ) (o : Option ℤ) (a : ArrayValue ℤ) → IsArrayOver ranges a → IsArrayOver ranges (put_some array_with (behind k t) o a)
   over-one k None a over = over
   over-one k (Some w) a over = over-with ranges a over (behind k t) w (array_with (behind k t) w a) refl

@@ -8,7 +8,7 @@ ghost use Rattle.dpl_memory.specs.Memory.{whole_held, held_at, held_with, held_o
 ghost use Rattle.dpl_contents.specs.Arrays.{words_of};
 
 use crate::DomainWord;
-use dpl_array::{ArrayFault, DArray, Walk};
+use dpl_array::{ArrayFault, DArray, Row, Walk};
 use dpl_domain::Index;
 use dpl_map::Map;
 use std::alloc::{AllocError, Global};
@@ -67,13 +67,13 @@ impl ArrayWords {
         self.array.get(index)
     }
 
-    /// Words at an index and at those behind it in its last dimension, as they stand side by side in a piece. There may be none, though the array has the
-    /// index: [`DArray::run`] tells where.
+    /// Words at the indices of a row, as they stand side by side in a piece. There may be none, though the array has the index:
+    /// [`DArray::run`] tells where.
     #[inline(always)]
-    pub fn run(&self, index: Index) -> &[i64]
-        ensures { (k : ℕ) (word : ℤ) → slice_get result.now k ≡ Some word → held_at (behind k index) self.now ≡ Some word }
+    pub fn run(&self, row: Row) -> &[i64]
+        ensures { (k : ℕ) (word : ℤ) → slice_get result.now k ≡ Some word → held_at (behind k row) self.now ≡ Some word }
     {
-        self.array.run(index)
+        self.array.run(row)
     }
 
     /// The word at one coordinate, if the array is of rank 1 and has it.
@@ -106,15 +106,15 @@ impl ArrayWords {
         self.array.set(index, word)
     }
 
-    /// Puts the first of some words at an index and at those behind it in its last dimension, as many as stand side by side in a piece, and
-    /// answers how many were put. There may be none, though the array has the index: [`DArray::set_run`] tells where.
+    /// Puts the first of some words at the indices of a row, as many as stand side by side in a piece, and answers how many were put. There
+    /// may be none, though the array has the index: [`DArray::set_run`] tells where.
     #[inline(always)]
-    pub fn set_run(&mut self, index: Index, words: &[i64]) -> usize
+    pub fn set_run(&mut self, row: Row, words: &[i64]) -> usize
         ensures most { result ≤ length words.now }
-        ensures there { (k : ℕ) → k < result → is_some (held_at (behind k index) self.old) ≡ true }
-        ensures changes { self.new ≡ put_in_row held_with index words.now result self.old }
+        ensures there { (k : ℕ) → k < result → is_some (held_at (behind k row) self.old) ≡ true }
+        ensures changes { self.new ≡ put_in_row held_with row words.now result self.old }
     {
-        self.array.set_run(index, words)
+        self.array.set_run(row, words)
     }
 
     /// Puts a word at one coordinate. False if the array hasn't got it, and then nothing is changed.

@@ -6,7 +6,7 @@ ghost use Rattle.dpl_array.specs.Elements.{behind, put_in_row};
 ghost use Rattle.dpl_memory.specs.Memory.{held_at, held_with};
 
 use crate::DomainWord;
-use dpl_array::Piece;
+use dpl_array::{Piece, Row};
 use dpl_domain::Index;
 use std::marker::Model;
 
@@ -44,13 +44,13 @@ impl PieceWords {
         self.piece.get(index)
     }
 
-    /// Words at an index and at those behind it in its last dimension, as they stand side by side. There may be none, though the piece has the
-    /// index: [`Piece::run`] tells where.
+    /// Words at the indices of a row, as they stand side by side. There may be none, though the piece has the index:
+    /// [`Piece::run`] tells where.
     #[inline(always)]
-    pub fn run(&self, index: Index) -> &[i64]
-        ensures { (k : ℕ) (word : ℤ) → slice_get result.now k ≡ Some word → held_at (behind k index) self.now ≡ Some word }
+    pub fn run(&self, row: Row) -> &[i64]
+        ensures { (k : ℕ) (word : ℤ) → slice_get result.now k ≡ Some word → held_at (behind k row) self.now ≡ Some word }
     {
-        self.piece.run(index)
+        self.piece.run(row)
     }
 
     /// The word at one coordinate, if the piece is of rank 1 and has it.
@@ -83,15 +83,15 @@ impl PieceWords {
         self.piece.set(index, word)
     }
 
-    /// Puts the first of some words at an index and at those behind it in its last dimension, as many as stand side by side, and answers
-    /// how many were put. There may be none, though the piece has the index: [`Piece::set_run`] tells where.
+    /// Puts the first of some words at the indices of a row, as many as stand side by side, and answers how many were put. There
+    /// may be none, though the piece has the index: [`Piece::set_run`] tells where.
     #[inline(always)]
-    pub fn set_run(&mut self, index: Index, words: &[i64]) -> usize
+    pub fn set_run(&mut self, row: Row, words: &[i64]) -> usize
         ensures most { result ≤ length words.now }
-        ensures there { (k : ℕ) → k < result → is_some (held_at (behind k index) self.old) ≡ true }
-        ensures changes { self.new ≡ put_in_row held_with index words.now result self.old }
+        ensures there { (k : ℕ) → k < result → is_some (held_at (behind k row) self.old) ≡ true }
+        ensures changes { self.new ≡ put_in_row held_with row words.now result self.old }
     {
-        self.piece.set_run(index, words)
+        self.piece.set_run(row, words)
     }
 
     /// Puts a word at one coordinate. False if the piece hasn't got it, and then nothing is changed.

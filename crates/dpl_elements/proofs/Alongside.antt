@@ -1,10 +1,13 @@
 -- Words put side by side into the array of a slot: what putting them one by one makes of the arrays.
 -- What is held elsewhere stays, and an index that is there stays there.
-use Rattle.std.proofs.Common.{◌≡◌, ◌≢◌, ◌<◌, ℕ, zero, suc, ℤ, pos, ◌+ℤ◌, Bool, true, false, List, [], ◌∷◌, length, set, get_or, slice_get, Option, Some, None, is_some, if◌then◌else◌, refl, sym, ap, ◌∙◌, ◌⊎◌, ⊎_elim, inl, inr, arith}
+use Rattle.std.proofs.Common.{◌≡◌, ◌≢◌, ◌<◌, ◌*◌, ℕ, zero, suc, ℤ, pos, negsuc, ◌+ℤ◌, ◌*ℤ◌, Bool, true, false, List, [], ◌∷◌, length, set, get_or, slice_get, Option, Some, None, is_some, if◌then◌else◌, refl, sym, ap, ◌∙◌, ◌⊎◌, ⊎_elim, inl, inr, arith}
 use Rattle.std.proofs.lemmas.Bool.{cases_Bool}
 use Rattle.std.proofs.lemmas.Int.{ints}
 use Rattle.std.proofs.lemmas.List.{set-get_or, set-set, get_or-set_same, get_or-set_other}
-use Rattle.dpl_array.specs.Elements.{behind, put_some, put_in_row}
+use Rattle.std.proofs.Math.IntN.{pos-*ℤ-pos, negsuc-*ℤ-pos}
+use Rattle.std.proofs.Math.Nat.{mul-lt-mul_of_pos_left}
+use Rattle.dpl_array.specs.Elements.{along, behind, put_some, put_in_row}
+use Rattle.dpl_array.specs.declared.row.Row.{Row}
 use Rattle.dpl_array.proofs.ElementLemmas.{same_index-true, not-same}
 use Rattle.dpl_language.specs.Values.{Index}
 use Rattle.dpl_language.specs.Ranges.{same_index}
@@ -13,19 +16,30 @@ use Rattle.dpl_memory.specs.Memory.{Held, no_array, word_at, with_word, held_at,
 use Rattle.dpl_frame.proofs.EmptySlots.{held_at_none}
 
 -- INDICES BEHIND ONE ANOTHER
-apart : (j k : ℕ) (t : Index) → 0 < length t → j < k → behind k t ≡ behind j t → ⊥
-apart j k [] some less same = absurd (omega (arith, some))
-apart j k (i ∷ []) some less same =
-    let heads : i +ℤ pos k ≡ i +ℤ pos j = ap (λ is. get_or is 0 (pos 0)) same in
-    absurd (omega (arith, ints, heads, less))
-apart j k (i ∷ h ∷ is) some less same = apart j k (h ∷ is) (omega arith) less (ap tail same)
+distances-apart : (s : ℤ) (j k : ℕ) → s ≢ pos 0 → j < k → s *ℤ pos k ≡ s *ℤ pos j → ⊥
+distances-apart (pos zero) j k moves less same = absurd (moves refl)
+distances-apart (pos (suc n)) j k moves less same =
+    let more : suc n * j < suc n * k = mul-lt-mul_of_pos_left less (omega arith) in
+    omega (arith, ints, more, sym (pos-*ℤ-pos (suc n) k) ∙ same ∙ pos-*ℤ-pos (suc n) j)
+distances-apart (negsuc n) j k moves less same =
+    let more : suc n * j < suc n * k = mul-lt-mul_of_pos_left less (omega arith) in
+    omega (arith, ints, more, sym (negsuc-*ℤ-pos n k) ∙ same ∙ negsuc-*ℤ-pos n j)
+
+along-apart : (c d : ℤ) (t : List ℤ) → 0 < length t → along c t ≡ along d t → c ≡ d
+along-apart c d [] some same = absurd (omega (arith, some))
+along-apart c d (i ∷ []) some same =
+    let heads : i +ℤ c ≡ i +ℤ d = ap (λ is. get_or is 0 (pos 0)) same in
+    omega (arith, ints, heads)
+along-apart c d (i ∷ h ∷ is) some same = along-apart c d (h ∷ is) (omega arith) (ap tail same)
   where
     tail : Index → Index
     tail [] = []
     tail (i ∷ is) = is
 
-index-apart : (j k : ℕ) (t : Index) → 0 < length t → j < k → same_index (behind k t) (behind j t) ≡ false
-index-apart j k t some less = is_index-same (behind k t) (behind j t) ∙ not-same (behind k t) (behind j t) (apart j k t some less)
+index-apart : (j k : ℕ) (t : Row) → 0 < length t.first → t.step ≢ pos 0 → j < k → same_index (behind k t) (behind j t) ≡ false
+index-apart j k t some moves less =
+    is_index-same (behind k t) (behind j t)
+    ∙ not-same (behind k t) (behind j t) (λ same. distances-apart t.step j k moves less (along-apart (t.step *ℤ pos k) (t.step *ℤ pos j) t.first some same))
 
 -- A WORD MORE
 -- at another index is what was there
@@ -82,7 +96,7 @@ slots-apart (suc m) (suc n) =
     (λ (other : m ≢ n). inr (λ (is : suc m ≡ suc n). other (omega (arith, is))))
     (slots-apart m n)
 
-module _ (slot : ℕ) (t : Index) (ws : List ℤ) (arrays : List Held) where
+module _ (slot : ℕ) (t : Row) (ws : List ℤ) (arrays : List Held) where
   -- the array, and the arrays of all slots, after so many
   abbrev pub row_put : ℕ → Held
   row_put k = put_in_row held_with t ws k (get_or arrays slot no_array)
@@ -113,7 +127,7 @@ module _ (slot : ℕ) (t : Index) (ws : List ℤ) (arrays : List Held) where
   pub others-put : (k other : ℕ) → other ≢ slot → get_or (arrays_put k) other no_array ≡ get_or arrays other no_array
   others-put k other apart = get_or-set_other arrays slot other (row_put k) no_array apart
 
-  module _ (within : slot < length arrays) (some : 0 < length t) where
+  module _ (within : slot < length arrays) (some : 0 < length t.first) (moves : t.step ≢ pos 0) where
     array-put : (k : ℕ) → get_or (arrays_put k) slot no_array ≡ row_put k
     array-put k = get_or-set_same arrays slot (row_put k) no_array within
 
@@ -124,7 +138,7 @@ module _ (slot : ℕ) (t : Index) (ws : List ℤ) (arrays : List Held) where
         (λ (same : other ≡ slot).
         ap (λ m. held_at (behind k t) (get_or (arrays_put k) m no_array)) same
         ∙ ap (held_at (behind k t)) (array-put k)
-        ∙ row-elsewhere (behind k t) k (λ j below. index-apart j k t some below)
+        ∙ row-elsewhere (behind k t) k (λ j below. index-apart j k t some moves below)
         ∙ ap (λ m. held_at (behind k t) (get_or arrays m no_array)) (sym same))
         (λ (apart : other ≢ slot). ap (held_at (behind k t)) (others-put k other apart))
         (slots-apart other slot)

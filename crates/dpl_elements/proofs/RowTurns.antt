@@ -3,6 +3,7 @@
 use Rattle.std.proofs.Common.{◌≡◌, ◌<◌, ◌≤◌, ◌+◌, ℕ, zero, suc, List, pos, get_or, None, Ok, refl, sym, subst, ap, ◌∙◌, arith}
 use Rattle.dpl_syntax.specs.declared.place.Place.{Place}
 use Rattle.dpl_array.specs.Elements.{behind}
+use Rattle.dpl_array.specs.declared.row.Row.{Row}
 use Rattle.dpl_language.specs.Tree.{Assign, AssignTree, IntKind, Stmts, NoStmts, Then}
 use Rattle.dpl_language.specs.Values.{Int, Index}
 use Rattle.dpl_language.specs.Outcome.{Run, Deeds, Done, then_do}
@@ -28,11 +29,11 @@ use Rattle.dpl_elements.proofs.BoundAgain.{bound_at-again, bound_at-arrays}
 use Rattle.dpl_elements.proofs.Elements.{exec-element}
 
 -- no turns are done where nothing has changed
-pub none-done : (turn : Index → Run Memory) (t : Index) (s : Memory) → AreDone turn t 0 s s
+pub none-done : (turn : Index → Run Memory) (t : Row) (s : Memory) → AreDone turn t 0 s s
 none-done turn t s = record { between = λ k. s; begins = refl; ends = refl; each = λ k below done. absurd (omega (arith, below)) }
 
 -- turns that change the element at their own index
-pub whole-row : (limits : Limits) (x : ArrayName) (sign : AssignTree) (turn : Index → Run Memory) (first : Index) (strip : Strip) (size : ℕ) (s : Memory) (arrays : List Held) → ArePut limits x sign first strip size s.arrays arrays
+pub whole-row : (limits : Limits) (x : ArrayName) (sign : AssignTree) (turn : Index → Run Memory) (first : Row) (strip : Strip) (size : ℕ) (s : Memory) (arrays : List Held) → ArePut limits x sign first strip size s.arrays arrays
     → ((k : ℕ) → k < size → (u : Memory) → IsSameAt (behind k first) s u → (done : Deeds) → turn (behind k first) u done ≡ change limits in_memory (array_leaf IntKind x) sign (behind k first) (Int (get_or strip.words k (pos 0))) u done)
     → AreDone turn first size s (record s { arrays = arrays })
 whole-row limits x sign turn first strip size s arrays put changes = record {
@@ -45,8 +46,8 @@ whole-row limits x sign turn first strip size s arrays put changes = record {
 }
 
 module _
-    (limits : Limits) (names : Names) (x : ArrayName) (index : IndexExpr) (op : Assign) (sign : Place) (e : IntExpr) (first at : Index) (strip : Strip) (size : ℕ) (s : Memory) (arrays : List Held)
-    (put : ArePut limits x (signed op sign) at strip size s.arrays arrays) (begins : strip.first ≡ first) (few : size ≤ strip.size) (cap : size ≤ 64)
+    (limits : Limits) (names : Names) (x : ArrayName) (index : IndexExpr) (op : Assign) (sign : Place) (e : IntExpr) (first at : Row) (strip : Strip) (size : ℕ) (s : Memory) (arrays : List Held)
+    (put : ArePut limits x (signed op sign) at strip size s.arrays arrays) (begins : strip.row ≡ first) (few : size ≤ strip.size) (cap : size ≤ 64)
     (values : HoldsInTurns names x.slot (λ u. value_of limits in_memory (int_view e) None u) s strip) (goes : GoesFrom limits names x.slot first s index at) where
   -- in the turn of an index, with these arrays
   abbrev turn_with : ℕ → List Held → Memory

@@ -2,8 +2,9 @@
 -- It is what putting them one by one does: the next int finds what those before it have left.
 use Rattle.std.specs.Prelude.{◌≡◌, ◌≢◌, ◌+◌, ◌<◌, ℕ, pos, List, get_or}
 use Rattle.dpl_array.specs.Elements.{behind}
+use Rattle.dpl_array.specs.declared.row.Row.{Row}
 use Rattle.dpl_language.specs.Tree.{AssignTree, IntKind}
-use Rattle.dpl_language.specs.Values.{Int, Index}
+use Rattle.dpl_language.specs.Values.{Int}
 use Rattle.dpl_language.specs.Outcome.{Deeds, Done}
 use Rattle.dpl_language.specs.Environment.{Limits}
 use Rattle.dpl_language.specs.Assignments.{change}
@@ -12,7 +13,7 @@ use Rattle.dpl_nodes.specs.declared.step.ArrayName.{ArrayName}
 use Rattle.dpl_nodes.specs.Steps.{array_leaf}
 use Rattle.dpl_loop.specs.declared.strip.Strip.{Strip}
 
-pub record ArePut (limits : Limits) (x : ArrayName) (sign : AssignTree) (at : Index) (strip : Strip) (size : ℕ) (before after : List Held) : Type 0 where
+pub record ArePut (limits : Limits) (x : ArrayName) (sign : AssignTree) (at : Row) (strip : Strip) (size : ℕ) (before after : List Held) : Type 0 where
   -- the arrays after so many
   pub between : ℕ → List Held
   pub begins : between 0 ≡ before

@@ -1,9 +1,11 @@
 -- The turns of a loop over a range, by its members.
 -- What a loop runs over is evaluated and tested before its first turn.
-use Rattle.std.specs.Prelude.{◌≡◌, ◌≢◌, ℕ, ◌+◌, ◌^◌, nat_lt, ℤ, pos, ◌+ℤ◌, ◌<ℤ◌, length, get_or, if◌then◌else◌, None, List, [], ◌∷◌, Result, Ok, Err}
+use Rattle.std.specs.Prelude.{◌≡◌, ◌≢◌, ◌≤◌, ℕ, ◌+◌, nat_lt, ℤ, pos, ◌+ℤ◌, ◌*ℤ◌, length, FitsSigned, get_or, if◌then◌else◌, None, List, [], ◌∷◌, Result, Ok, Err}
+use Rattle.std.specs.Int.{w64}
 use Rattle.dpl_syntax.specs.declared.place.Place.{Place}
 use Rattle.dpl_domain.specs.Ranks.{last_of}
 use Rattle.dpl_array.specs.Rows.{StandsIn}
+use Rattle.dpl_array.specs.declared.row.Row.{Row}
 use Rattle.dpl_language.specs.Tree.{ItemTree, Stmts, Op}
 use Rattle.dpl_language.specs.Values.{Value, Int, Domain, Index, Fault, fault, Budget}
 use Rattle.dpl_language.specs.Ranges.{size_in, loop_ranges}
@@ -59,6 +61,7 @@ abbrev pub intended_turns : List (Variable × Op) → (Index → Run Memory) →
 intended_turns intents turn ts s done =
     then_do (in_order (named_turn turn) ts (in_memory.intend intents s) done) (λ s done. Done (in_memory.intend [] s) done)
 
--- the last coordinate of an index can be so much greater
-abbrev pub HasRoom : Index → ℕ → Type 0
-HasRoom t k = (x y z : ℤ) → t ≡ last_of (length t) x y z → (z +ℤ pos k) <ℤ pos (2 ^ 63)
+-- so far behind the first index of a row, and before that, the last coordinate stays in its word, as does what it is greater by
+abbrev pub HasRoom : Row → ℕ → Type 0
+HasRoom row n =
+    (x y z : ℤ) → row.first ≡ last_of (length row.first) x y z → (k : ℕ) → k ≤ n → FitsSigned w64 (row.step *ℤ pos k) × FitsSigned w64 (z +ℤ row.step *ℤ pos k)

@@ -1,7 +1,7 @@
 // Ints that go into elements side by side, by whichever operator divides none.
 // It is as if each went into its element alone, one after another: none of them has a fault.
 
-ghost use Rattle.std.specs.Prelude.{◌≡◌, ◌≤◌, ◌<◌, ℕ, ℤ, pos, false, List, Some, None, get_or};
+ghost use Rattle.std.specs.Prelude.{◌≡◌, ◌≢◌, ◌≤◌, ◌<◌, ℕ, ℤ, pos, false, List, Some, None, get_or};
 ghost use Rattle.dpl_array.specs.Elements.{behind};
 ghost use Rattle.dpl_language.specs.Values.{Int};
 ghost use Rattle.dpl_language.specs.Arithmetic.{assigned, assign_divides};
@@ -11,30 +11,31 @@ ghost use Rattle.dpl_elements.specs.Changes.{signed};
 ghost use Rattle.dpl_elements.specs.Rows.{ArePut};
 
 use crate::element::{assigned, divides, replaces};
-use dpl_domain::Index;
 use dpl_frame::{Arrays, Frame};
-use dpl_loop::{STRIP, Strip};
+use dpl_loop::{Row, STRIP, Strip};
 use dpl_nodes::{ArrayName, Spot};
 use dpl_tree::Assign;
 
-// What an operator makes of elements that stand side by side and of ints for them; nothing of an operator that divides.
+// What an operator makes of elements that stand side by side and of ints for them; nothing of an operator that divides, nor of a row whose
+// indices are all the same.
 fn changed<A: Arrays>(
     name: &ArrayName<'_>,
     op: Assign,
-    at: Index,
+    at: Row,
     strip: Strip,
     frame: &Frame<A>,
 ) -> Strip
     ensures size { result.size ≤ strip.size }
     ensures divides { 0 < result.size → assign_divides op ≡ false }
+    ensures moves { 0 < result.size → at.step ≢ pos 0 }
     ensures words { (k : ℕ) (old : ℤ) → k < result.size → k < 64 → held_at (behind k at) (array_at name.now.slot frame.now.memory) ≡ Some old
         → assigned op None (Int old) (Int (get_or strip.words k (pos 0))) ≡ Int (get_or result.words k (pos 0)) }
 {
+    if at.step == 0 || divides(op) {
+        return Strip::none(strip.row);
+    }
     if replaces(op) {
         return strip;
-    }
-    if divides(op) {
-        return Strip::none(strip.first);
     }
     let old = frame.run(name.slot, at);
     let size = strip.size.min(old.len()).min(STRIP);
@@ -43,18 +44,18 @@ fn changed<A: Arrays>(
         words[k] = assigned(op, old[k], words[k]);
     }
     Strip {
-        first: strip.first,
+        row: strip.row,
         words,
         size,
     }
 }
 
-/// Puts the ints of a strip into the elements at an index and behind it, at most so many of them, as an operator makes them; how many.
+/// Puts the ints of a strip into the elements at the indices of a row, at most so many of them, as an operator makes them; how many.
 pub fn put_row<A: Arrays>(
     name: &ArrayName<'_>,
     op: Assign,
     sign: &Spot,
-    at: Index,
+    at: Row,
     strip: Strip,
     most: usize,
     frame: &mut Frame<A>,
@@ -66,7 +67,7 @@ pub fn put_row<A: Arrays>(
         × ArePut frame.old.limits name.now (signed op sign.now) at strip result frame.old.memory.arrays arrays }
 {
     // Nothing is read here: that an index has coordinates is a clause of this call.
-    let _ = at.rank();
+    let _ = at.first.rank();
     let strip = changed(name, op, at, strip, frame);
     let size = strip.size.min(most).min(STRIP);
     frame.put_run(name.slot, at, &strip.words[..size])

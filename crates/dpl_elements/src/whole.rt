@@ -31,7 +31,7 @@ use crate::row::put_row;
 use dpl_dependence::{int_reads_own, truth_reads_own};
 use dpl_domain::Index;
 use dpl_frame::{Arrays, DomainWord, Frame};
-use dpl_loop::{Apart, OpenGate, Stop, Turns};
+use dpl_loop::{Apart, OpenGate, Row, Stop, Turns};
 use dpl_nodes::{ArrayName, PromotedInt, PromotedTruth, Spot};
 use dpl_strips::index::coordinate;
 use dpl_strips::{promoted_strip, repeated};
@@ -58,9 +58,9 @@ impl<'e> Turns for Fill<'e> {
         change(self.name, self.op, self.sign, index, self.value, frame)
     }
 
-    fn make_row<A: Arrays>(&self, first: Index, most: usize, frame: &mut Frame<A>) -> usize {
-        let strip = repeated(first, self.value);
-        put_row(self.name, self.op, self.sign, first, strip, most, frame)
+    fn make_row<A: Arrays>(&self, row: Row, most: usize, frame: &mut Frame<A>) -> usize {
+        let strip = repeated(row, self.value);
+        put_row(self.name, self.op, self.sign, row, strip, most, frame)
     }
 
     fn apart(&self) -> Option<Apart<'_>> {
@@ -89,9 +89,9 @@ impl<'e, 'x> Turns for Promote<'e, 'x> {
         change(self.name, self.op, self.sign, index, value, frame)
     }
 
-    fn make_row<A: Arrays>(&self, first: Index, most: usize, frame: &mut Frame<A>) -> usize {
-        let strip = promoted_strip(self.e, first, frame);
-        put_row(self.name, self.op, self.sign, first, strip, most, frame)
+    fn make_row<A: Arrays>(&self, row: Row, most: usize, frame: &mut Frame<A>) -> usize {
+        let strip = promoted_strip(self.e, row, frame);
+        put_row(self.name, self.op, self.sign, row, strip, most, frame)
     }
 
     fn apart(&self) -> Option<Apart<'_>> {
@@ -175,12 +175,12 @@ impl<'e, 'x> Turns for WholeTurns<'e, 'x> {
         }
     }
 
-    fn make_row<A: Arrays>(&self, first: Index, most: usize, frame: &mut Frame<A>) -> usize {
+    fn make_row<A: Arrays>(&self, row: Row, most: usize, frame: &mut Frame<A>) -> usize {
         match self {
-            WholeTurns::Fill(turns) => turns.make_row(first, most, frame),
-            WholeTurns::Promote(turns) => turns.make_row(first, most, frame),
-            WholeTurns::FillTruth(turns) => turns.make_row(first, most, frame),
-            WholeTurns::PromoteTruth(turns) => turns.make_row(first, most, frame),
+            WholeTurns::Fill(turns) => turns.make_row(row, most, frame),
+            WholeTurns::Promote(turns) => turns.make_row(row, most, frame),
+            WholeTurns::FillTruth(turns) => turns.make_row(row, most, frame),
+            WholeTurns::PromoteTruth(turns) => turns.make_row(row, most, frame),
         }
     }
 

@@ -6,6 +6,7 @@ ghost use Rattle.dpl_array.specs.Elements.{behind, put_in_row};
 ghost use Rattle.dpl_language.specs.Ranges.{too_large};
 ghost use Rattle.dpl_memory.specs.Memory.{Held, no_array, held_at, held_with, is_some_array, redomained_from};
 
+use dpl_array::Row;
 use dpl_contents::{ArrayWords, DomainWord};
 use dpl_domain::Index;
 use std::alloc::{AllocError, Global};
@@ -35,10 +36,10 @@ pub trait Arrays: Drop {
     fn element_space(&self, slot: usize, i: i64, j: i64, k: i64) -> Option<i64>
         ensures { result ≡ held_at (i ∷ j ∷ k ∷ []) (get_or (held self.now) slot no_array) };
 
-    /// Words at an index of the array in a slot and at those behind it in its last dimension, as they stand side by side. There may be
-    /// none, though the array has the index; they spare a loop the reads one by one.
-    fn run(&self, slot: usize, index: Index) -> &[i64]
-        ensures { (k : ℕ) (word : ℤ) → slice_get result.now k ≡ Some word → held_at (behind k index) (get_or (held self.now) slot no_array) ≡ Some word };
+    /// Words at the indices of a row of the array in a slot, as they stand side by side. There may be none, though the array has the index;
+    /// they spare a loop the reads one by one.
+    fn run(&self, slot: usize, row: Row) -> &[i64]
+        ensures { (k : ℕ) (word : ℤ) → slice_get result.now k ≡ Some word → held_at (behind k row) (get_or (held self.now) slot no_array) ≡ Some word };
 
     /// Puts a word at an index of the array in a slot. False if the array hasn't got it, and then nothing is changed.
     ///
@@ -71,12 +72,12 @@ pub trait Arrays: Drop {
         ensures changes { OnOk result (held self.new
             ≡ set (held self.old) slot (held_with (i ∷ j ∷ k ∷ []) word (get_or (held self.old) slot no_array))) };
 
-    /// Puts the first of some words at an index of the array in a slot and at those behind it in its last dimension, as many as stand side by
-    /// side, and answers how many were put. There may be none, though the array has the index; they spare a loop the writes one by one.
-    fn put_run(&mut self, slot: usize, index: Index, words: &[i64]) -> usize
+    /// Puts the first of some words at the indices of a row of the array in a slot, as many as stand side by side, and answers how many were
+    /// put. There may be none, though the array has the index; they spare a loop the writes one by one.
+    fn put_run(&mut self, slot: usize, row: Row, words: &[i64]) -> usize
         ensures most { result ≤ length words.now }
-        ensures there { (k : ℕ) → k < result → is_some (held_at (behind k index) (get_or (held self.old) slot no_array)) ≡ true }
-        ensures changes { held self.new ≡ set (held self.old) slot (put_in_row held_with index words.now result (get_or (held self.old) slot no_array)) };
+        ensures there { (k : ℕ) → k < result → is_some (held_at (behind k row) (get_or (held self.old) slot no_array)) ≡ true }
+        ensures changes { held self.new ≡ set (held self.old) slot (put_in_row held_with row words.now result (get_or (held self.old) slot no_array)) };
 
     /// Puts an array into a slot; past the last one it does nothing.
     fn keep(&mut self, slot: usize, array: ArrayWords)

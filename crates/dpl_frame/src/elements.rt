@@ -13,6 +13,7 @@ use crate::filled::filled;
 use crate::frame::Frame;
 use crate::root::Root;
 use crate::slots::Slots;
+use dpl_array::Row;
 use dpl_contents::{ArrayWords, DomainWord};
 use dpl_domain::Index;
 use dpl_map::Map;
@@ -83,13 +84,12 @@ impl<A: Arrays> Frame<A> {
         self.arrays.element_space(slot, i, j, k)
     }
 
-    /// Words at an index of the array in a slot and at those behind it in its last dimension, as they stand side by side. There may be
-    /// none, though the array has the index.
+    /// Words at the indices of a row of the array in a slot, as they stand side by side. There may be none, though the array has the index.
     #[inline(always)]
-    pub fn run(&self, slot: usize, index: Index) -> &[i64]
-        ensures { (k : ℕ) (word : ℤ) → slice_get result.now k ≡ Some word → held_at (behind k index) (array_at slot self.now.memory) ≡ Some word }
+    pub fn run(&self, slot: usize, row: Row) -> &[i64]
+        ensures { (k : ℕ) (word : ℤ) → slice_get result.now k ≡ Some word → held_at (behind k row) (array_at slot self.now.memory) ≡ Some word }
     {
-        self.arrays.run(slot, index)
+        self.arrays.run(slot, row)
     }
 
     /// Puts a word at one coordinate of the array in a slot. False if the array hasn't got it, and then nothing is changed.
@@ -155,16 +155,16 @@ impl<A: Arrays> Frame<A> {
         self.arrays.put(slot, index, word)
     }
 
-    /// Puts the first of some words at an index of the array in a slot and at those behind it in its last dimension, as many as stand side by
-    /// side, and answers how many were put. There may be none, though the array has the index.
+    /// Puts the first of some words at the indices of a row of the array in a slot, as many as stand side by side, and answers how many were
+    /// put. There may be none, though the array has the index.
     #[inline(always)]
-    pub fn put_run(&mut self, slot: usize, index: Index, words: &[i64]) -> usize
+    pub fn put_run(&mut self, slot: usize, row: Row, words: &[i64]) -> usize
         ensures most { result ≤ length words.now }
-        ensures there { (k : ℕ) → k < result → is_some (held_at (behind k index) (array_at slot self.old.memory)) ≡ true }
+        ensures there { (k : ℕ) → k < result → is_some (held_at (behind k row) (array_at slot self.old.memory)) ≡ true }
         ensures changes { self.new
-            ≡ with_memory (with_array slot (put_in_row held_with index words.now result (array_at slot self.old.memory)) self.old.memory) self.old }
+            ≡ with_memory (with_array slot (put_in_row held_with row words.now result (array_at slot self.old.memory)) self.old.memory) self.old }
     {
-        self.arrays.put_run(slot, index, words)
+        self.arrays.put_run(slot, row, words)
     }
 
     /// The array over a domain that holds 0 everywhere, dealt out by a map. It is in no slot.

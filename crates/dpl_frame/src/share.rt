@@ -7,6 +7,7 @@ ghost use Rattle.dpl_memory.specs.Memory.{Held, no_array, held_at, held_with};
 ghost use Rattle.dpl_frame.specs.Shares.{share_in, held_seen, IsOwn};
 
 use crate::slots::Slots;
+use dpl_array::Row;
 use dpl_contents::{ArrayWords, PieceWords};
 use dpl_domain::Index;
 use std::alloc::{AllocError, Global};
@@ -151,18 +152,18 @@ impl Share {
         }
     }
 
-    // Puts the first of some words at an index and at those behind it, as many as stand side by side. Where the array is lent none are put.
+    // Puts the first of some words at the indices of a row, as many as stand side by side. Where the array is lent none are put.
     #[inline(always)]
-    pub(crate) fn put_run(&mut self, index: Index, words: &[i64]) -> usize
+    pub(crate) fn put_run(&mut self, row: Row, words: &[i64]) -> usize
         ensures most { result ≤ length words.now }
-        ensures there { (lent : List Held) (slot k : ℕ) → k < result → is_some (held_at (behind k index) (share_in self.old lent slot)) ≡ true }
+        ensures there { (lent : List Held) (slot k : ℕ) → k < result → is_some (held_at (behind k row) (share_in self.old lent slot)) ≡ true }
         ensures changes { (lent : List Held) (slot : ℕ)
-            → share_in self.new lent slot ≡ put_in_row held_with index words.now result (share_in self.old lent slot) }
+            → share_in self.new lent slot ≡ put_in_row held_with row words.now result (share_in self.old lent slot) }
     {
         match self {
             Share::Lent => 0,
-            Share::Piece(piece) => piece.set_run(index, words),
-            Share::Whole(array) => array.set_run(index, words),
+            Share::Piece(piece) => piece.set_run(row, words),
+            Share::Whole(array) => array.set_run(row, words),
         }
     }
 }

@@ -8,6 +8,7 @@ ghost use Rattle.dpl_frame.specs.Shares.{own_before, held_seen};
 use crate::arrays::Arrays;
 use crate::share::{Seen, Share};
 use crate::slots::Slots;
+use dpl_array::Row;
 use dpl_contents::{ArrayWords, DomainWord};
 use dpl_domain::Index;
 use std::alloc::{AllocError, Global};
@@ -127,11 +128,11 @@ impl<'w> Arrays for Shares<'w> {
     }
 
     #[inline(always)]
-    fn run(&self, slot: usize, index: Index) -> &[i64] {
+    fn run(&self, slot: usize, row: Row) -> &[i64] {
         match self.seen(slot) {
             Seen::Absent => &[],
-            Seen::Piece(piece) => piece.run(index),
-            Seen::Whole(array) => array.run(index),
+            Seen::Piece(piece) => piece.run(row),
+            Seen::Whole(array) => array.run(row),
         }
     }
 
@@ -181,9 +182,9 @@ impl<'w> Arrays for Shares<'w> {
     }
 
     #[inline(always)]
-    fn put_run(&mut self, slot: usize, index: Index, words: &[i64]) -> usize {
+    fn put_run(&mut self, slot: usize, row: Row, words: &[i64]) -> usize {
         if slot < self.own.len() {
-            self.own[slot].put_run(index, words)
+            self.own[slot].put_run(row, words)
         } else {
             0
         }

@@ -9,7 +9,7 @@ ghost use Rattle.dpl_frame.specs.Frames.{held_in};
 
 use crate::arrays::Arrays;
 use crate::filled::filled;
-use dpl_array::ArrayFault;
+use dpl_array::{ArrayFault, Row};
 use dpl_contents::{ArrayWords, DomainWord};
 use dpl_domain::Index;
 use dpl_map::Map;
@@ -80,14 +80,14 @@ fn put_space_in(array: &mut Option<ArrayWords>, i: i64, j: i64, k: i64, word: i6
     }
 }
 
-// Puts the first of some words at an index and at those behind it, if there is an array that has them side by side.
-fn put_run_in(array: &mut Option<ArrayWords>, index: Index, words: &[i64]) -> usize
+// Puts the first of some words at the indices of a row, if there is an array that has them side by side.
+fn put_run_in(array: &mut Option<ArrayWords>, row: Row, words: &[i64]) -> usize
     ensures most { result ≤ length words.now }
-    ensures there { (k : ℕ) → k < result → is_some (held_at (behind k index) (held_in array.old)) ≡ true }
-    ensures changes { held_in array.new ≡ put_in_row held_with index words.now result (held_in array.old) }
+    ensures there { (k : ℕ) → k < result → is_some (held_at (behind k row) (held_in array.old)) ≡ true }
+    ensures changes { held_in array.new ≡ put_in_row held_with row words.now result (held_in array.old) }
 {
     match array {
-        Some(array) => array.set_run(index, words),
+        Some(array) => array.set_run(row, words),
         None => 0,
     }
 }
@@ -250,9 +250,9 @@ impl Arrays for Slots {
     }
 
     #[inline(always)]
-    fn run(&self, slot: usize, index: Index) -> &[i64] {
+    fn run(&self, slot: usize, row: Row) -> &[i64] {
         match self.array(slot) {
-            Some(array) => array.run(index),
+            Some(array) => array.run(row),
             None => &[],
         }
     }
@@ -307,9 +307,9 @@ impl Arrays for Slots {
 
     #[tactic(auto, using(crate::proofs::EmptySlots::put_past, crate::proofs::EmptySlots::none_past, crate::proofs::EmptySlots::held_within, crate::proofs::EmptySlots::held_set))]
     #[inline(always)]
-    fn put_run(&mut self, slot: usize, index: Index, words: &[i64]) -> usize {
+    fn put_run(&mut self, slot: usize, row: Row, words: &[i64]) -> usize {
         if slot < self.arrays.len() {
-            put_run_in(&mut self.arrays[slot], index, words)
+            put_run_in(&mut self.arrays[slot], row, words)
         } else {
             0
         }

@@ -16,5 +16,3 @@ pub mod Lines
 pub mod Folding
 pub mod Folds
 -- Strips.
-pub mod Behind
-pub mod InRows

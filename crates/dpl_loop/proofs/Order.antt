@@ -3,6 +3,7 @@ use Rattle.std.proofs.Common.{◌≡◌, ℕ, zero, suc, ◌+◌, ◌≤◌, ◌
 use Rattle.std.proofs.lemmas.Option.{slice_get_within}
 use Rattle.dpl_range.proofs.Lists.{drop-slice_get}
 use Rattle.dpl_array.specs.Elements.{behind}
+use Rattle.dpl_array.specs.declared.row.Row.{Row}
 use Rattle.dpl_language.specs.Values.{Index}
 use Rattle.dpl_language.specs.Outcome.{Deeds, Done, Run, then_do, in_order, naming}
 use Rattle.dpl_language.specs.Loops.{named_turn}
@@ -29,7 +30,7 @@ run-within ts place zero run within = omega (arith, within)
 run-within ts place (suc k) run within = let last = run k (omega arith) in let below = slice_get_within ts (place + k) last.0 last.1 in omega (arith, below)
 
 -- the turns of a row, which are done
-module _ (turn : Index → Run Memory) (ts : List Index) (place : ℕ) (t : Index) (size : ℕ) (s next : Memory) (done : Deeds) (are : AreDone turn t size s next) (row : (k : ℕ) → k < size → slice_get ts (place + k) ≡ Some (behind k t)) where
+module _ (turn : Index → Run Memory) (ts : List Index) (place : ℕ) (t : Row) (size : ℕ) (s next : Memory) (done : Deeds) (are : AreDone turn t size s next) (row : (k : ℕ) → k < size → slice_get ts (place + k) ≡ Some (behind k t)) where
   order-some : (n : ℕ) → n ≤ size → in_order (named_turn turn) (drop (place + n) ts) (are.between n) done ≡ in_order (named_turn turn) (drop place ts) s done
   order-some zero most =
       let same : place + 0 ≡ place = omega arith in

@@ -2,6 +2,7 @@
 -- Where memory ran out or a worker was not started nothing is said of it, and where a gate refused, that it may.
 use Rattle.std.specs.Prelude.{◌≡◌, ◌+◌, ◌<◌, ℕ, List, drop, Result, Ok, Err}
 use Rattle.dpl_array.specs.Elements.{behind}
+use Rattle.dpl_array.specs.declared.row.Row.{Row}
 use Rattle.dpl_language.specs.Values.{Index}
 use Rattle.dpl_language.specs.Outcome.{Deeds, Outcome, Run, Done, Stop as StopAt, in_order}
 use Rattle.dpl_memory.specs.Memory.{Memory}
@@ -21,13 +22,12 @@ RunsTo may (Err stop.Gate) s done o = may
 abbrev pub RunEnds : Result (Unit {0}) Stop → Memory → Deeds → Outcome Memory → Type 0
 RunEnds r s done o = RunsTo ⊥ r s done o
 
--- the turns of an index and of those behind it, so many, are done one after another: each begins in the memory in which the one before
--- it ends
-pub record AreDone (turn : Index → Run Memory) (t : Index) (size : ℕ) (before after : Memory) : Type 0 where
+-- the turns of a row's first indices, so many, are done one after another: each begins in the memory in which the one before it ends
+pub record AreDone (turn : Index → Run Memory) (row : Row) (size : ℕ) (before after : Memory) : Type 0 where
   pub between : ℕ → Memory
   pub begins : between 0 ≡ before
   pub ends : between size ≡ after
-  pub each : (k : ℕ) → k < size → (done : Deeds) → turn (behind k t) (between k) done ≡ Done (between (k + 1)) done
+  pub each : (k : ℕ) → k < size → (done : Deeds) → turn (behind k row) (between k) done ≡ Done (between (k + 1)) done
 
 -- turns in order from a place on are those from a later place, once some are done; or they end early
 abbrev pub TurnsGoOn : Type 0 → (Index → Run Memory) → List Index → ℕ → Memory → Result ℕ Stop → Memory → Deeds → Type 0

@@ -6,6 +6,7 @@ use Rattle.dpl_map.specs.Maps.{AxisValue, owner}
 use Rattle.dpl_language.specs.Tree.{Op}
 use Rattle.dpl_language.specs.Expressions.{folded}
 use Rattle.dpl_array.specs.Elements.{behind}
+use Rattle.dpl_array.specs.declared.row.Row.{Row}
 use Rattle.dpl_loop.specs.declared.strip.Strip.{Strip}
 use Rattle.std.specs.Borrow.{MutBor}
 use Rattle.dpl_language.specs.Values.{Value, Index, Fault}
@@ -45,11 +46,11 @@ MayEndRefused answers = (part : List RangeValue) × (e : Ended) × answers part 
 
 -- each int of a strip is the value at its index
 abbrev pub HoldsStrip : (ℤ → Value) → (Index → Result Value Fault) → Strip → Type 0
-HoldsStrip value meaning s = (k : ℕ) → k < s.size → k < 64 → meaning (behind k s.first) ≡ Ok (value (get_or s.words k (pos 0)))
+HoldsStrip value meaning s = (k : ℕ) → k < s.size → k < 64 → meaning (behind k s.row) ≡ Ok (value (get_or s.words k (pos 0)))
 
--- and so it is of all strips that a function gives, each of which begins at the index that it is asked for
-abbrev pub StripsTell : (ℤ → Value) → (Index → Strip → Type 0) → (Index → Result Value Fault) → Type 0
-StripsTell value strips meaning = (t : Index) (s : Strip) → strips t s → (s.first ≡ t) × HoldsStrip value meaning s
+-- and so it is of all strips that a function gives, each of which is of the row that it is asked for
+abbrev pub StripsTell : (ℤ → Value) → (Row → Strip → Type 0) → (Index → Result Value Fault) → Type 0
+StripsTell value strips meaning = (row : Row) (s : Strip) → strips row s → (s.row ≡ row) × HoldsStrip value meaning s
 
 -- what was put together up to a place, with what follows it, is the fold of all: so it goes on from a later place, or ends; and what was put
 -- together are operands

@@ -20,6 +20,7 @@ use crate::reduction::Operator;
 use crate::strip::Strip;
 use crate::strips::fold_strips;
 use crate::words::{OnWords, Words};
+use dpl_array::Row;
 use dpl_contents::DomainWord;
 use dpl_domain::{Domain, Index};
 use dpl_frame::{Alarm, Turn};
@@ -39,7 +40,7 @@ pub struct Dealt<'a, G> {
 fn fold_part<
     O: Operator<Item = i64>,
     F: Fn(Index, &mut Turn) -> Result<i64, Alarm>,
-    S: Fn(Index) -> Strip,
+    S: Fn(Row) -> Strip,
     G: Gate,
 >(
     operator: &O,
@@ -150,7 +151,7 @@ pub fn reduce_by_workers<
     R: Threads + Sync,
     O: Operator<Item = i64> + Sync,
     F: Fn(Index, &mut Turn) -> Result<i64, Alarm> + Sync,
-    S: Fn(Index) -> Strip + Sync,
+    S: Fn(Row) -> Strip + Sync,
     G: Gate + Sync,
 >(
     rt: &R,

@@ -40,6 +40,7 @@ mod units;
 mod words;
 
 pub use apart::Apart;
+pub use dpl_array::Row;
 pub use fold_parts::{Dealt, reduce_by_workers};
 pub use gate::{Gate, OpenGate};
 pub use loops::{forall_here, forall_line};

@@ -7,6 +7,7 @@ ghost use Rattle.dpl_language.specs.Values.{Index as IndexValue};
 ghost use Rattle.dpl_language.specs.Ranges.{indices_in};
 ghost use Rattle.dpl_contents.specs.Range.{range_word};
 
+use dpl_array::Row;
 use dpl_contents::RangeWord;
 use dpl_domain::{Domain, Index};
 
@@ -23,11 +24,11 @@ pub(crate) trait Places {
     fn at(&self, place: u64) -> Option<Index>
         ensures { result ≡ slice_get (indices self.now) place };
 
-    /// How many indices there are from a place to the end of its row, where the last dimension has the stride 1; each lies behind
-    /// the one at the place. Of another stride none.
-    fn row_left(&self, place: u64) -> u64
-        ensures { (t : IndexValue) → slice_get (indices self.now) place ≡ Some t → (k : ℕ) → k < result → slice_get (indices self.now) (place + k)
-            ≡ Some (behind k t) };
+    /// The row from an index on, which stands at a place; and how many of its indices there are from there on, one place after another.
+    fn row(&self, index: Index, place: u64) -> (Row, u64)
+        requires { slice_get (indices self.now) place ≡ Some index }
+        ensures first { result.0.first ≡ index }
+        ensures there { (k : ℕ) → k < result.1 → slice_get (indices self.now) (place + k) ≡ Some (behind k result.0) };
 }
 
 impl Places for Domain {
@@ -43,13 +44,8 @@ impl Places for Domain {
         self.nth(place)
     }
 
-    fn row_left(&self, place: u64) -> u64 {
-        let (_, _, inner) = self.ranges();
-        let size = inner.size();
-        if inner.stride() != 1 || size == 0 {
-            return 0;
-        }
-        size - place % size
+    fn row(&self, index: Index, place: u64) -> (Row, u64) {
+        Row::of(self, index, place)
     }
 }
 
@@ -77,10 +73,11 @@ impl Places for RangeWord {
         }
     }
 
-    fn row_left(&self, place: u64) -> u64 {
-        if self.range.stride() != 1 {
-            return 0;
-        }
-        self.range.size().saturating_sub(place)
+    fn row(&self, index: Index, place: u64) -> (Row, u64) {
+        let row = Row {
+            first: index,
+            step: self.range.stride(),
+        };
+        (row, self.range.size().saturating_sub(place))
     }
 }

@@ -13,8 +13,8 @@ ghost use Rattle.dpl_loop.specs.Folds.{in_turns, AreOperands, FoldEnds};
 
 use crate::gate::{Gate, enters};
 use crate::reduction::{Operator, entered, fold};
-use crate::rows::Places;
 use crate::strip::{STRIP, Strip};
+use dpl_array::Row;
 use dpl_contents::DomainWord;
 use dpl_domain::{Domain, Index};
 use dpl_frame::{Alarm, Turn};
@@ -52,11 +52,11 @@ fn put_together<O: Operator<Item = i64>>(
 ) -> i64
     requires { size ≤ 64 }
     ensures folds { (meaning : IndexValue → Result Value Fault) (ts : List IndexValue) (place : ℕ) → size ≤ strip.now.size
-        → HoldsStrip O.value meaning strip.now → ((k : ℕ) → k < size → slice_get ts (place + k) ≡ Some (behind k strip.now.first))
+        → HoldsStrip O.value meaning strip.now → ((k : ℕ) → k < size → slice_get ts (place + k) ≡ Some (behind k strip.now.row))
         → folded (O.op operator.now) (in_turns meaning) (drop (place + size) ts) (O.value result)
         ≡ folded (O.op operator.now) (in_turns meaning) (drop place ts) (O.value before) }
     ensures operands { (meaning : IndexValue → Result Value Fault) (ts : List IndexValue) (place : ℕ) → size ≤ strip.now.size
-        → HoldsStrip O.value meaning strip.now → ((k : ℕ) → k < size → slice_get ts (place + k) ≡ Some (behind k strip.now.first))
+        → HoldsStrip O.value meaning strip.now → ((k : ℕ) → k < size → slice_get ts (place + k) ≡ Some (behind k strip.now.row))
         → AreOperands (O.op operator.now) (in_turns meaning) (drop (place + size) ts)
         → AreOperands (O.op operator.now) (in_turns meaning) (drop place ts) }
 {
@@ -67,23 +67,12 @@ fn put_together<O: Operator<Item = i64>>(
     so_far
 }
 
-// How many ints of a strip are in the row of the place where it begins.
-fn in_row(strip: &Strip, domain: &Domain, place: u64) -> usize
-    ensures strip { result ≤ strip.now.size }
-    ensures all { result ≤ 64 }
-    ensures row { (t : IndexValue) → slice_get (indices domain.now) place ≡ Some t → (k : ℕ) → k < result → slice_get (indices domain.now) (place + k)
-        ≡ Some (behind k t) }
-{
-    let size = strip.size.min(STRIP);
-    size.min(domain.row_left(place) as usize)
-}
-
 // The ints from a place on put to what was put together before it, as many as a strip has in the row of the place, or that of the place alone;
 // and the next place.
 fn gone_on<
     O: Operator<Item = i64>,
     F: Fn(Index, &mut Turn) -> Result<i64, Alarm>,
-    S: Fn(Index) -> Strip,
+    S: Fn(Row) -> Strip,
     G: Gate,
 >(
     operator: &O,
@@ -109,8 +98,9 @@ fn gone_on<
     let Some(index) = domain.nth(place) else {
         unreachable!()
     };
-    let strip = strip_at(index);
-    let size = in_row(&strip, domain, place);
+    let (row, left) = Row::of(domain, index, place);
+    let strip = strip_at(row);
+    let size = strip.size.min(STRIP).min(left as usize);
     if size == 0 {
         let item = entered(item_at, index, place, map, gate, turn)?;
         return Ok((operator.combined(before, item), place + 1));
@@ -128,7 +118,7 @@ fn gone_on<
 pub(crate) fn fold_strips<
     O: Operator<Item = i64>,
     F: Fn(Index, &mut Turn) -> Result<i64, Alarm>,
-    S: Fn(Index) -> Strip,
+    S: Fn(Row) -> Strip,
     G: Gate,
 >(
     operator: &O,
@@ -147,7 +137,7 @@ pub(crate) fn fold_strips<
         (O.op operator.now) (in_turns meaning) (indices domain.now) turn.new result }
 {
     let serves = match domain.nth(0) {
-        Some(first) => FEW <= strip_at(first).size,
+        Some(first) => FEW <= strip_at(Row::of(domain, first, 0).0).size,
         None => false,
     };
     if !serves {
@@ -164,14 +154,14 @@ pub(crate) fn fold_strips<
 }
 
 /// The ints of a domain's indices put together, as [`reduce`](crate::reduce) does it. Beside what answers for one index stands what answers
-/// for several: a strip has ints of an index and of those behind it in the last dimension, and may have none.
+/// for several: a strip has ints of the first indices of a row, and may have none.
 ///
 /// # Errors
 /// As for [`reduce`](crate::reduce).
 pub fn reduce_ints<
     O: Operator<Item = i64>,
     F: Fn(Index, &mut Turn) -> Result<i64, Alarm>,
-    S: Fn(Index) -> Strip,
+    S: Fn(Row) -> Strip,
     G: Gate,
 >(
     operator: &O,

@@ -35,11 +35,11 @@ fn row<A: Arrays, P: Places, T: Turns>(
         ≡ in_order (named_turn (T.turn turns.now frame.old.limits)) (drop place (P.indices over.now)) frame.old.memory done }
     ensures limits { frame.new.limits ≡ frame.old.limits }
 {
-    let left = over.row_left(place);
+    let (row, left) = over.row(index, place);
     if left < FEW {
         return 0;
     }
-    turns.make_row(index, left as usize, frame)
+    turns.make_row(row, left as usize, frame)
 }
 
 /// How many turns are made at once from the first index on. None where a gate is to be asked for them.

@@ -10,6 +10,7 @@ ghost use Rattle.dpl_loop.specs.Runs.{AreDone, RunEnds};
 
 use crate::apart::Apart;
 use crate::stop::Stop;
+use dpl_array::Row;
 use dpl_domain::Index;
 use dpl_frame::{Arrays, Frame};
 
@@ -26,11 +27,11 @@ pub trait Turns {
         ensures ends { (done : Deeds) → RunEnds result frame.new.memory done (turn self.now frame.old.limits index frame.old.memory done) }
         ensures limits { frame.new.limits ≡ frame.old.limits };
 
-    /// Makes the turns of an index and of those behind it in the last dimension, at most so many, where several are done at once; how
-    /// many it has made. There may be none, and none of them has a fault.
-    fn make_row<A: Arrays>(&self, first: Index, most: usize, frame: &mut Frame<A>) -> usize
+    /// Makes the turns of a row's indices, at most so many, where several are done at once; how many it has made. There may be none, and
+    /// none of them has a fault.
+    fn make_row<A: Arrays>(&self, row: Row, most: usize, frame: &mut Frame<A>) -> usize
         ensures most { result ≤ most }
-        ensures done { AreDone (turn self.now frame.old.limits) first result frame.old.memory frame.new.memory }
+        ensures done { AreDone (turn self.now frame.old.limits) row result frame.old.memory frame.new.memory }
         ensures limits { frame.new.limits ≡ frame.old.limits }
     {
         0

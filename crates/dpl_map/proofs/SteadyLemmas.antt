@@ -9,7 +9,7 @@ use Rattle.dpl_domain.specs.Ranks.{last_of, IsPadded}
 use Rattle.dpl_map.specs.AxisFields.{IsAxis, IsRule}
 use Rattle.dpl_map.specs.Boxes.{AreBetween, IsSteady}
 use Rattle.dpl_map.specs.MapFields.{IsMap}
-use Rattle.dpl_map.specs.Maps.{AxisValue, RuleValue, Block, axis_coordinate, rule_coordinate, owner}
+use Rattle.dpl_map.specs.Maps.{AxisValue, RuleValue, Block, Cyclic, axis_coordinate, rule_coordinate, owner}
 use Rattle.dpl_map.specs.Places.{block_place}
 use Rattle.dpl_map.proofs.AxisLemmas.{axis-below, block-last}
 use Rattle.dpl_map.proofs.OwnerLemmas.{locale_of, owner-padded}
@@ -116,4 +116,25 @@ module _ (axes : List AxisValue) (d : ℕ) (axis : AxisValue) (at : slice_get ax
         let is : axis ≡ record { rule = Block low high; extent = n } = same_Some axis (record { rule = Block low high; extent = n }) (sym at ∙ there) in
         let bounds : ◌≡◌ {A = ℤ × ℤ} (from, to) (low, high) = same_Some (from, to) (low, high) (only low high (ap (λ a. a.rule) is)) in
         ap {A = ℤ × ℤ} {B = Option (ℤ × ℤ × ℕ)} (λ p. Some (p.0, p.1, axis.extent)) bounds ∙ ap {A = ℕ} {B = Option (ℤ × ℤ × ℕ)} (λ k. Some (low, high, k)) (ap (λ a. a.extent) is)),
+  )
+
+-- THE START OF A DIMENSION THAT GOES ROUND
+abbrev pub IsRoundOf : List AxisValue → ℕ → Option (ℤ × ℕ) → Type 0
+IsRoundOf axes d r = (start : ℤ) (n : ℕ) → (r ≡ Some (start, n)) ↔ (slice_get axes d ≡ Some (record { rule = Cyclic start; extent = n }))
+
+module _ (axes : List AxisValue) (d : ℕ) (axis : AxisValue) (at : slice_get axes d ≡ Some axis) where
+  pub round-absent : (r : Option (ℤ × ℕ)) → r ≡ None → ((start : ℤ) → axis.rule ≡ Cyclic start → ⊥) → IsRoundOf axes d r
+  round-absent r none other start n = (
+    (λ is. absurd (none-some (start, n) (sym none ∙ is))),
+    (λ there. absurd (other start (ap (λ a. a.rule) (same_Some axis (record { rule = Cyclic start; extent = n }) (sym at ∙ there))))),
+  )
+
+  pub round-there : (from : ℤ) → axis.rule ≡ Cyclic from → ((start : ℤ) → axis.rule ≡ Cyclic start → from ≡ start) → IsRoundOf axes d (Some (from, axis.extent))
+  round-there from rule only start n = (
+    (λ is.
+        let same : ◌≡◌ {A = ℤ × ℕ} (from, axis.extent) (start, n) = same_Some (from, axis.extent) (start, n) is in
+        at ∙ ap (λ (r : RuleValue). Some (record { rule = r; extent = axis.extent })) rule ∙ ap (λ (p : ℤ × ℕ). Some (record { rule = Cyclic p.0; extent = p.1 })) same),
+    (λ there.
+        let is : axis ≡ record { rule = Cyclic start; extent = n } = same_Some axis (record { rule = Cyclic start; extent = n }) (sym at ∙ there) in
+        ap {A = ℤ} {B = Option (ℤ × ℕ)} (λ i. Some (i, axis.extent)) (only start (ap (λ a. a.rule) is)) ∙ ap {A = ℕ} {B = Option (ℤ × ℕ)} (λ k. Some (start, k)) (ap (λ a. a.extent) is)),
   )

@@ -213,6 +213,16 @@ impl Axis {
         Some((low, high))
     }
 
+    /// Where the coordinates begin to go round, by the cyclic rule. None by another one.
+    pub fn start(&self) -> Option<i64>
+        ensures { (start : ℤ) → (result ≡ Some start) ↔ (self.now.rule ≡ Cyclic start) }
+    {
+        let Rule::Cyclic { start } = self.rule else {
+            return None;
+        };
+        Some(start)
+    }
+
     /// Whether all integers between two have one coordinate, where that can be told by the two.
     pub fn is_steady(&self, low: i64, high: i64) -> bool
         ensures { IsTrue result → IsSteady self.now low high }

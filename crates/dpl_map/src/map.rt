@@ -6,7 +6,7 @@ ghost use Rattle.dpl_domain.specs.Ranks.{last_of, IsPadded};
 ghost use Rattle.dpl_sets.specs.Ranges.{RangeValue, IsBound};
 ghost use Rattle.dpl_map.specs.AxisFields.{IsAxis};
 ghost use Rattle.dpl_map.specs.MapFields.{IsMap};
-ghost use Rattle.dpl_map.specs.Maps.{Block, owner, locales, whole_map, cyclic_map, block_cyclic_map, IsBlocksize, IsBlockMap};
+ghost use Rattle.dpl_map.specs.Maps.{Block, Cyclic, owner, locales, whole_map, cyclic_map, block_cyclic_map, IsBlocksize, IsBlockMap};
 ghost use Rattle.dpl_map.specs.Boxes.{AreBetween};
 ghost use Rattle.dpl_map.specs.Parts.{part};
 
@@ -210,6 +210,16 @@ impl Map {
         let axis = self.axes.get(d)?;
         let (low, high) = axis.bounds()?;
         Some((low, high, axis.extent()))
+    }
+
+    /// Where dimension `d`, counted from 0, begins to go round by the cyclic rule, and over how many coordinates it is dealt out. None by
+    /// another rule, and where the map has no such dimension.
+    pub fn round(&self, d: u32) -> Option<(i64, u32)>
+        ensures { (start : ℤ) (n : ℕ) → (result ≡ Some (start, n)) ↔ (slice_get self.now d ≡ Some (record { rule = Cyclic start; extent = n })) }
+    {
+        let axis = self.axes.get(d)?;
+        let start = axis.start()?;
+        Some((start, axis.extent()))
     }
 
     /// How many locales the map has: those of its grid, or one. Each tuple is owned by one of them, so the parts of a

@@ -10,7 +10,7 @@ use dpl_dependence::{are_independent, are_own};
 use dpl_domain::Index;
 use dpl_elements::{Crew, WholeTurns};
 use dpl_frame::{Alarm, Arrays, DomainWord, Frame, Truth, Turn};
-use dpl_loop::{Apart, Gate, Stop, Turns, forall_here};
+use dpl_loop::{Apart, Gate, Row, Stop, Turns, forall_here};
 use dpl_map::Map;
 use dpl_nodes::{
     Argument, DomainExpr, IntFold, Intent, Names, PromotedInt, PromotedTruth, RangeExpr, Spot,
@@ -147,8 +147,8 @@ impl<'b, 't> Turns for Body<'b, 't> {
         run(self.steps, &context, frame, &mut ())
     }
 
-    fn make_row<A: Arrays>(&self, first: Index, most: usize, frame: &mut Frame<A>) -> usize {
-        make_row(&self.names, self.steps, first, most, frame)
+    fn make_row<A: Arrays>(&self, row: Row, most: usize, frame: &mut Frame<A>) -> usize {
+        make_row(&self.names, self.steps, row, most, frame)
     }
 
     fn apart(&self) -> Option<Apart<'_>> {

@@ -3,6 +3,7 @@
 use Rattle.std.proofs.Common.{◌≡◌, ◌<◌, ◌≤◌, ◌+◌, ℕ, zero, suc, ℤ, pos, List, length, get_or, None, refl, sym, subst, ap, ◌∙◌, arith}
 use Rattle.std.proofs.lemmas.List.{set-get_or, set-set, get_or-set_same, get_or-set_other}
 use Rattle.dpl_array.specs.Elements.{behind}
+use Rattle.dpl_array.specs.declared.row.Row.{Row}
 use Rattle.dpl_language.specs.Tree.{One, NoStmts, Then}
 use Rattle.dpl_language.specs.Values.{Int, Index}
 use Rattle.dpl_language.specs.Outcome.{Deeds, Done, with_ok, then_do}
@@ -28,9 +29,9 @@ use Rattle.dpl_elements.proofs.Changing.{exec-int}
 use Rattle.dpl_steps.specs.Folded.{folded_one, folded_words, Folds}
 
 module _
-    (limits : Limits) (names : Names) (deed : IntDeed) (slot : ℕ) (e : IntExpr) (fold : IntFold) (first : Index) (strip : Strip) (size : ℕ) (s : Memory)
+    (limits : Limits) (names : Names) (deed : IntDeed) (slot : ℕ) (e : IntExpr) (fold : IntFold) (first : Row) (strip : Strip) (size : ℕ) (s : Memory)
     (apart : IsApart names slot) (there : slot < length s.words.numbers) (folds : Folds deed (intent_at slot s.words.intents) fold)
-    (begins : strip.first ≡ first) (few : size ≤ strip.size) (cap : size ≤ 64)
+    (begins : strip.row ≡ first) (few : size ≤ strip.size) (cap : size ≤ 64)
     (values : HoldsInTurns names slot (λ u. value_of limits in_memory (int_view e) None u) s strip) where
   -- the word after so many turns
   abbrev word_after : ℕ → ℤ

@@ -16,38 +16,41 @@ use crate::fold::{fold_of, folded};
 use dpl_domain::Index;
 use dpl_elements::put_row;
 use dpl_frame::{Arrays, Frame};
-use dpl_loop::STRIP;
+use dpl_loop::{Row, STRIP};
 use dpl_nodes::{ArrayName, IndexExpr, IntDeed, IntExpr, Names, Spot, Step};
 use dpl_strips::index::{coordinate, plane, space};
-use dpl_strips::{turn_index, turn_strip};
+use dpl_strips::{turn_row, turn_strip};
 use dpl_tree::Assign;
 
-// Whether the last coordinate of an index can be greater by a whole strip.
-fn has_room(first: Index) -> bool
-    ensures { result ≡ true → HasRoom first 64 }
+// Whether the last coordinate of a row's indices stays in its word through a whole strip.
+fn has_room(row: Row) -> bool
+    ensures { result ≡ true → HasRoom row 64 }
 {
     // Nothing is read here: that an index has coordinates is a clause of this call.
-    let _ = first.rank();
-    let (_, _, inner) = first.numbers();
-    inner.checked_add(STRIP as i64).is_some()
+    let _ = row.first.rank();
+    let (_, _, inner) = row.first.numbers();
+    match row.step.checked_mul(STRIP as i64) {
+        Some(more) => inner.checked_add(more).is_some(),
+        None => false,
+    }
 }
 
-// The index so far behind another.
-fn behind(first: Index, k: usize) -> Index
+// The index of a row that stands so many behind its first.
+fn behind(row: Row, k: usize) -> Index
     requires most { k ≤ 64 }
-    requires room { HasRoom first 64 }
-    ensures { result ≡ behind k first }
+    requires room { HasRoom row 64 }
+    ensures { result ≡ behind k row }
 {
-    let (outer, middle, inner) = first.numbers();
-    let last = inner + k as i64;
-    match first.rank() {
+    let (outer, middle, inner) = row.first.numbers();
+    let last = inner + row.step * k as i64;
+    match row.first.rank() {
         1 => coordinate(last),
         2 => plane(middle, last),
         _ => space(outer, middle, last),
     }
 }
 
-// An assignment to an element, in the turns of an index and of those behind it.
+// An assignment to an element, in the turns of a row's indices.
 fn assign_row<'t, A: Arrays>(
     names: &Names<'t>,
     name: &ArrayName<'t>,
@@ -55,25 +58,25 @@ fn assign_row<'t, A: Arrays>(
     op: Assign,
     sign: &Spot,
     e: &IntExpr<'t>,
-    first: Index,
+    row: Row,
     most: usize,
     frame: &mut Frame<A>,
 ) -> usize
     ensures most { result ≤ most }
     ensures done { AreDone (index_turn frame.old.limits names.now
-        (Then (element_set (array_leaf IntKind name.now) index.now op sign.now (int_view e.now)) NoStmts)) first result frame.old.memory frame.new.memory }
+        (Then (element_set (array_leaf IntKind name.now) index.now op sign.now (int_view e.now)) NoStmts)) row result frame.old.memory frame.new.memory }
     ensures limits { frame.new.limits ≡ frame.old.limits }
 {
-    if !has_room(first) {
+    if !has_room(row) {
         return 0;
     }
-    let Some(at) = turn_index(index, names, name.slot, first, frame) else {
+    let Some(at) = turn_row(index, names, name.slot, row, frame) else {
         return 0;
     };
-    let strip = turn_strip(e, names, name.slot, first, frame);
+    let strip = turn_strip(e, names, name.slot, row, frame);
     let made = put_row(name, op, sign, at, strip, most, frame);
     if made > 0 {
-        bind(names, behind(first, made - 1), frame);
+        bind(names, behind(row, made - 1), frame);
     }
     made
 }
@@ -89,49 +92,49 @@ fn is_variable(names: &Names<'_>, slot: usize) -> bool
     }
 }
 
-// What is done to an int, in the turns of an index and of those behind it, where each folds its right side onto it.
+// What is done to an int, in the turns of a row's indices, where each folds its right side onto it.
 fn fold_row<'t, A: Arrays>(
     names: &Names<'t>,
     deed: &IntDeed<'t>,
     slot: usize,
     e: &IntExpr<'t>,
-    first: Index,
+    row: Row,
     most: usize,
     frame: &mut Frame<A>,
 ) -> usize
     ensures most { result ≤ most }
     ensures done { AreDone
         (index_turn frame.old.limits names.now (Then (int_changed deed.now slot (One (int_view e.now))) NoStmts))
-        first result frame.old.memory frame.new.memory }
+        row result frame.old.memory frame.new.memory }
     ensures limits { frame.new.limits ≡ frame.old.limits }
 {
-    if !has_room(first) || is_variable(names, slot) || !frame.has_number(slot) {
+    if !has_room(row) || is_variable(names, slot) || !frame.has_number(slot) {
         return 0;
     }
     let Some(fold) = fold_of(deed, frame.operator(slot)) else {
         return 0;
     };
-    let strip = turn_strip(e, names, slot, first, frame);
+    let strip = turn_strip(e, names, slot, row, frame);
     let made = strip.size.min(most).min(STRIP);
     if made > 0 {
         let word = folded(fold, frame.number(slot), &strip.words, made);
-        bind(names, behind(first, made - 1), frame);
+        bind(names, behind(row, made - 1), frame);
         frame.set_number(slot, word);
     }
     made
 }
 
-/// Makes the turns of an index and of those behind it, at most so many, where the body is one assignment to an element, or folds an int
-/// onto another one, and its ints are found several at once; how many.
+/// Makes the turns of a row's indices, at most so many, where the body is one assignment to an element, or folds an int onto another one, and
+/// its ints are found several at once; how many.
 pub fn make_row<'t, A: Arrays>(
     names: &Names<'t>,
     body: &[Step<'t>],
-    first: Index,
+    row: Row,
     most: usize,
     frame: &mut Frame<A>,
 ) -> usize
     ensures most { result ≤ most }
-    ensures done { AreDone (index_turn frame.old.limits names.now (steps_in InTurn body.now)) first result frame.old.memory frame.new.memory }
+    ensures done { AreDone (index_turn frame.old.limits names.now (steps_in InTurn body.now)) row result frame.old.memory frame.new.memory }
     ensures limits { frame.new.limits ≡ frame.old.limits }
 {
     let [step] = body else {
@@ -139,9 +142,9 @@ pub fn make_row<'t, A: Arrays>(
     };
     match step {
         Step::SetElement(name, index, op, sign, e) => {
-            assign_row(names, name, index, *op, sign, e, first, most, frame)
+            assign_row(names, name, index, *op, sign, e, row, most, frame)
         }
-        Step::Int(deed, slot, e) => fold_row(names, deed, *slot, e, first, most, frame),
+        Step::Int(deed, slot, e) => fold_row(names, deed, *slot, e, row, most, frame),
         _ => 0,
     }
 }

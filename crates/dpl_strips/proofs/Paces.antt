@@ -1,8 +1,9 @@
--- The words of the turns of an index and of those behind it, as the variables of the loop have them.
+-- The words of the turns of a row's indices, as the variables of the loop have them.
 -- Each lemma has the words of a turn, or what is put into slots in it, on its left side.
-use Rattle.std.proofs.Common.{◌≡◌, arith, ℕ, ℤ, pos, ◌+ℤ◌, List, [], ◌∷◌, map, length, get_or, set, Option, IfSome, FitsSigned, w64, refl, sym, subst, ap, ◌∙◌}
+use Rattle.std.proofs.Common.{◌≡◌, arith, ℕ, ℤ, pos, ◌+ℤ◌, ◌*ℤ◌, List, [], ◌∷◌, map, length, get_or, set, Option, IfSome, FitsSigned, w64, refl, sym, subst, ap, ◌∙◌}
 use Rattle.dpl_domain.specs.Ranks.{last_of}
-use Rattle.dpl_array.specs.Elements.{behind}
+use Rattle.dpl_array.specs.Elements.{along, behind}
+use Rattle.dpl_array.specs.declared.row.Row.{Row}
 use Rattle.dpl_language.specs.Tree.{Placed, AfterComma}
 use Rattle.dpl_language.specs.Values.{Int, Index}
 use Rattle.dpl_language.specs.Loops.{declare_each}
@@ -15,12 +16,12 @@ use Rattle.dpl_strips.specs.Strips.{GoesIn, each_put}
 
 -- ---- the variables of a loop
 -- words that are the same go the same
-pub GoesIn-same : (numbers others : ℕ → List ℤ) (slot : ℕ) (p : Pace) → ((k : ℕ) → others k ≡ numbers k) → GoesIn numbers slot p → GoesIn others slot p
-GoesIn-same numbers others slot p same goes = (goes.0, λ k within. ap (λ ws. get_or ws slot (pos 0)) (same k) ∙ goes.1 k within)
+pub GoesIn-same : (step : ℤ) (numbers others : ℕ → List ℤ) (slot : ℕ) (p : Pace) → ((k : ℕ) → others k ≡ numbers k) → GoesIn step numbers slot p → GoesIn step others slot p
+GoesIn-same step numbers others slot p same goes = (goes.0, λ k within. ap (λ ws. get_or ws slot (pos 0)) (same k) ∙ goes.1 k within)
 
 -- what no turn changes stays
-pub GoesIn-steady : (words : List ℤ) (slot : ℕ) (n : ℤ) → FitsSigned w64 n → n ≡ get_or words slot (pos 0) → GoesIn (λ k. words) slot (Steady n)
-GoesIn-steady words slot n fits is = ((λ k within. fits), λ k within. sym is)
+pub GoesIn-steady : (step : ℤ) (words : List ℤ) (slot : ℕ) (n : ℤ) → FitsSigned w64 n → n ≡ get_or words slot (pos 0) → GoesIn step (λ k. words) slot (Steady n)
+GoesIn-steady step words slot n fits is = ((λ k within. fits), λ k within. sym is)
 
 -- a variable for each coordinate
 declare_each-numbers : (slots : List ℕ) (t : Index) (s : Memory)
@@ -35,29 +36,37 @@ declare_each-each variable others [] s = declare_each-numbers others [] (with_va
 declare_each-each variable others (i ∷ t) s = declare_each-numbers others t (with_value_in (PlainKind IntLeaf) variable (Int i) s)
 
 -- by the rank
-module _ (r : Option Pace) (slot variable : ℕ) (ws : List ℤ) (first : Index) (x y z : ℤ) (coordinates : first ≡ last_of (length first) x y z) where
-  first_is : (n : ℕ) → length first ≡ n → first ≡ last_of n x y z
+module _ (r : Option Pace) (slot variable : ℕ) (ws : List ℤ) (row : Row) (x y z : ℤ) (coordinates : row.first ≡ last_of (length row.first) x y z) where
+  first_is : (n : ℕ) → length row.first ≡ n → row.first ≡ last_of n x y z
   first_is n long = coordinates ∙ ap (λ n. last_of n x y z) long
 
-  pub each_put-one : (others : List ℕ) → length first ≡ 1 → length others ≡ 0 → IfSome r (GoesIn (λ k. set ws variable (z +ℤ pos k)) slot)
-      → IfSome r (GoesIn (λ k. each_put (variable ∷ others) (behind k first) ws) slot)
-  each_put-one [] one none goes = subst (λ t. IfSome r (GoesIn (λ k. each_put (variable ∷ []) (behind k t) ws) slot)) (sym (first_is 1 one)) goes
+  -- the last coordinate in a turn
+  abbrev last : ℕ → ℤ
+  last k = z +ℤ row.step *ℤ pos k
+
+  -- what is put into slots from another index on
+  abbrev PutFrom : List ℕ → Index → Type 0
+  PutFrom slots t = IfSome r (GoesIn row.step (λ k. each_put slots (along (row.step *ℤ pos k) t) ws) slot)
+
+  pub each_put-one : (others : List ℕ) → length row.first ≡ 1 → length others ≡ 0 → IfSome r (GoesIn row.step (λ k. set ws variable (last k)) slot)
+      → IfSome r (GoesIn row.step (λ k. each_put (variable ∷ others) (behind k row) ws) slot)
+  each_put-one [] one none goes = subst (PutFrom (variable ∷ [])) (sym (first_is 1 one)) goes
   each_put-one (o ∷ others) one none goes = absurd (omega (arith, none))
 
-  pub each_put-two : (others : List ℕ) (o : ℕ) → length first ≡ 2 → length others ≡ 1 → get_or others 0 o ≡ o → IfSome r (GoesIn (λ k. set (set ws variable y) o (z +ℤ pos k)) slot)
-      → IfSome r (GoesIn (λ k. each_put (variable ∷ others) (behind k first) ws) slot)
+  pub each_put-two : (others : List ℕ) (o : ℕ) → length row.first ≡ 2 → length others ≡ 1 → get_or others 0 o ≡ o → IfSome r (GoesIn row.step (λ k. set (set ws variable y) o (last k)) slot)
+      → IfSome r (GoesIn row.step (λ k. each_put (variable ∷ others) (behind k row) ws) slot)
   each_put-two [] o two one is goes = absurd (omega (arith, one))
   each_put-two (a ∷ []) o two one is goes =
-      subst (λ t. IfSome r (GoesIn (λ k. each_put (variable ∷ a ∷ []) (behind k t) ws) slot)) (sym (first_is 2 two))
-      (subst (λ o. IfSome r (GoesIn (λ k. set (set ws variable y) o (z +ℤ pos k)) slot)) (sym is) goes)
+      subst (PutFrom (variable ∷ a ∷ [])) (sym (first_is 2 two))
+      (subst (λ o. IfSome r (GoesIn row.step (λ k. set (set ws variable y) o (last k)) slot)) (sym is) goes)
   each_put-two (a ∷ b ∷ others) o two one is goes = absurd (omega (arith, one))
 
-  pub each_put-three : (others : List ℕ) (o p : ℕ) → length first ≡ 3 → length others ≡ 2 → get_or others 0 o ≡ o → get_or others 1 p ≡ p
-      → IfSome r (GoesIn (λ k. set (set (set ws variable x) o y) p (z +ℤ pos k)) slot)
-      → IfSome r (GoesIn (λ k. each_put (variable ∷ others) (behind k first) ws) slot)
+  pub each_put-three : (others : List ℕ) (o p : ℕ) → length row.first ≡ 3 → length others ≡ 2 → get_or others 0 o ≡ o → get_or others 1 p ≡ p
+      → IfSome r (GoesIn row.step (λ k. set (set (set ws variable x) o y) p (last k)) slot)
+      → IfSome r (GoesIn row.step (λ k. each_put (variable ∷ others) (behind k row) ws) slot)
   each_put-three [] o p three two is also goes = absurd (omega (arith, two))
   each_put-three (a ∷ []) o p three two is also goes = absurd (omega (arith, two))
   each_put-three (a ∷ b ∷ []) o p three two is also goes =
-      subst (λ t. IfSome r (GoesIn (λ k. each_put (variable ∷ a ∷ b ∷ []) (behind k t) ws) slot)) (sym (first_is 3 three))
-      (subst (λ o. IfSome r (GoesIn (λ k. set (set (set ws variable x) o y) b (z +ℤ pos k)) slot)) (sym is) (subst (λ p. IfSome r (GoesIn (λ k. set (set (set ws variable x) o y) p (z +ℤ pos k)) slot)) (sym also) goes))
+      subst (PutFrom (variable ∷ a ∷ b ∷ [])) (sym (first_is 3 three))
+      (subst (λ o. IfSome r (GoesIn row.step (λ k. set (set (set ws variable x) o y) b (last k)) slot)) (sym is) (subst (λ p. IfSome r (GoesIn row.step (λ k. set (set (set ws variable x) o y) p (last k)) slot)) (sym also) goes))
   each_put-three (a ∷ b ∷ c ∷ others) o p three two is also goes = absurd (omega (arith, two))

@@ -37,18 +37,18 @@ repeated (suc n) (suc k) w below = repeated n k w (omega (arith, below))
 -- what strips hold: each int is what is meant at its index, in each memory that suits the index
 abbrev HoldsWhere : (Index → Memory → Type 0) → (Index → Memory → Result Value Fault) → Strip → Type 0
 HoldsWhere Suits meaning strip =
-    (k : ℕ) → k < strip.size → k < 64 → (u : Memory) → Suits (behind k strip.first) u → meaning (behind k strip.first) u ≡ Ok (Int (get_or strip.words k (pos 0)))
+    (k : ℕ) → k < strip.size → k < 64 → (u : Memory) → Suits (behind k strip.row) u → meaning (behind k strip.row) u ≡ Ok (Int (get_or strip.words k (pos 0)))
 
 -- what is made of the ints of two strips, where that makes the whole's value of theirs
 pub both-hold : (Suits : Index → Memory → Type 0) (left_at right_at whole_at : Index → Memory → Result Value Fault) (apply : ℤ → ℤ → ℤ)
     → ((t : Index) (u : Memory) (x y : ℤ) → left_at t u ≡ Ok (Int x) → right_at t u ≡ Ok (Int y) → whole_at t u ≡ Ok (Int (apply x y)))
-    → (left right made : Strip) → right.first ≡ left.first → made.first ≡ left.first → ((k : ℕ) → k < made.size → k < left.size) → ((k : ℕ) → k < made.size → k < right.size)
+    → (left right made : Strip) → right.row ≡ left.row → made.row ≡ left.row → ((k : ℕ) → k < made.size → k < left.size) → ((k : ℕ) → k < made.size → k < right.size)
     → HoldsWhere Suits left_at left → HoldsWhere Suits right_at right
     → ((k : ℕ) → k < 64 → get_or made.words k (pos 0) ≡ apply (get_or left.words k (pos 0)) (get_or right.words k (pos 0)))
     → HoldsWhere Suits whole_at made
 both-hold Suits left_at right_at whole_at apply whole left right made beside behind_left in_left in_right left_holds right_holds words k below within u suits =
     ap (λ t. whole_at (behind k t) u) behind_left
-    ∙ whole (behind k left.first) u (get_or left.words k (pos 0)) (get_or right.words k (pos 0))
+    ∙ whole (behind k left.row) u (get_or left.words k (pos 0)) (get_or right.words k (pos 0))
     (left_holds k (in_left k below) within u (subst (λ t. Suits (behind k t) u) behind_left suits))
     (ap (λ t. right_at (behind k t) u) (sym beside) ∙ right_holds k (in_right k below) within u (subst (λ t. Suits (behind k t) u) (behind_left ∙ sym beside) suits))
     ∙ ap (λ n. Ok (Int n)) (sym (words k within))

@@ -1,8 +1,9 @@
 -- Ints of several indices at once, and how far turns may change a memory before they are used.
 -- A strip is evaluated before those turns, and each of its ints is the value in the turn of its index all the same.
-use Rattle.std.specs.Prelude.{◌≡◌, ◌≢◌, ◌<◌, ℕ, ℤ, pos, ◌+ℤ◌, List, [], ◌∷◌, get_or, set, None, Result, Ok, FitsSigned}
+use Rattle.std.specs.Prelude.{◌≡◌, ◌≢◌, ◌<◌, ℕ, ℤ, pos, ◌+ℤ◌, ◌*ℤ◌, List, [], ◌∷◌, get_or, set, None, Result, Ok, FitsSigned}
 use Rattle.std.specs.Int.{w64}
 use Rattle.dpl_array.specs.Elements.{behind}
+use Rattle.dpl_array.specs.declared.row.Row.{Row}
 use Rattle.dpl_language.specs.Values.{Value, Int, Domain, Index, index_of, Fault}
 use Rattle.dpl_language.specs.Outcome.{with_ok}
 use Rattle.dpl_language.specs.Environment.{Limits}
@@ -26,7 +27,7 @@ pub record IsSameAt (t : Index) (s u : Memory) : Type 0 where
 -- each int of a strip is the value at its index, also where elements at other indices have changed
 abbrev pub HoldsAtIndices : (Index → Memory → Result Value Fault) → Memory → Strip → Type 0
 HoldsAtIndices meaning s strip =
-    (k : ℕ) → k < strip.size → k < 64 → (u : Memory) → IsSameAt (behind k strip.first) s u → meaning (behind k strip.first) u ≡ Ok (Int (get_or strip.words k (pos 0)))
+    (k : ℕ) → k < strip.size → k < 64 → (u : Memory) → IsSameAt (behind k strip.row) s u → meaning (behind k strip.row) u ≡ Ok (Int (get_or strip.words k (pos 0)))
 
 -- a memory in the turn of an index: the variables of the loop hold the index, and else the word and the array of one slot alone may have
 -- changed
@@ -38,20 +39,20 @@ pub record IsInTurn (names : Names) (target : ℕ) (t : Index) (s u : Memory) : 
 -- each int of a strip is the value in the turn of its index
 abbrev pub HoldsInTurns : Names → ℕ → (Memory → Result Value Fault) → Memory → Strip → Type 0
 HoldsInTurns names target meaning s strip =
-    (k : ℕ) → k < strip.size → k < 64 → (u : Memory) → IsInTurn names target (behind k strip.first) s u → meaning u ≡ Ok (Int (get_or strip.words k (pos 0)))
+    (k : ℕ) → k < strip.size → k < 64 → (u : Memory) → IsInTurn names target (behind k strip.row) s u → meaning u ≡ Ok (Int (get_or strip.words k (pos 0)))
 
--- the int in the k-th turn of one that goes so
-abbrev pub paced : Pace → ℕ → ℤ
-paced (Steady c) k = c
-paced (Stepping c) k = c +ℤ pos k
+-- the int in the k-th turn of one that goes so along a row of such a step
+abbrev pub paced : ℤ → Pace → ℕ → ℤ
+paced step (Steady c) k = c
+paced step (Stepping c) k = c +ℤ step *ℤ pos k
 
 -- it fits a word in all turns of a strip
-abbrev pub FitsTurns : Pace → Type 0
-FitsTurns pace = (k : ℕ) → k < 64 → FitsSigned w64 (paced pace k)
+abbrev pub FitsTurns : ℤ → Pace → Type 0
+FitsTurns step pace = (k : ℕ) → k < 64 → FitsSigned w64 (paced step pace k)
 
 -- the word in a slot goes so, by the words of each turn
-abbrev pub GoesIn : (ℕ → List ℤ) → ℕ → Pace → Type 0
-GoesIn numbers slot pace = FitsTurns pace × ((k : ℕ) → k < 64 → get_or (numbers k) slot (pos 0) ≡ paced pace k)
+abbrev pub GoesIn : ℤ → (ℕ → List ℤ) → ℕ → Pace → Type 0
+GoesIn step numbers slot pace = FitsTurns step pace × ((k : ℕ) → k < 64 → get_or (numbers k) slot (pos 0) ≡ paced step pace k)
 
 -- the coordinates of an index, one each in slots; a slot without one gets 0
 abbrev pub each_put : List ℕ → Index → List ℤ → List ℤ
@@ -59,17 +60,17 @@ each_put [] t words = words
 each_put (slot ∷ slots) [] words = each_put slots [] (set words slot (pos 0))
 each_put (slot ∷ slots) (i ∷ t) words = each_put slots t (set words slot i)
 
--- the words of the turns of an index and of those behind it, as the variables of the loop have them
-abbrev pub turn_numbers : Names → Index → Memory → ℕ → List ℤ
-turn_numbers names first s k = (bound_to in_memory (names_view names) (Domain []) (behind k first) s).words.numbers
+-- the words of the turns of a row's indices, as the variables of the loop have them
+abbrev pub turn_numbers : Names → Row → Memory → ℕ → List ℤ
+turn_numbers names row s k = (bound_to in_memory (names_view names) (Domain []) (behind k row) s).words.numbers
 
--- an int goes so through the turns of an index and of those behind it
-abbrev pub GoesAt : Limits → Names → ℕ → Index → Memory → IntExpr → Pace → Type 0
-GoesAt limits names target first s e pace =
-    (k : ℕ) → k < 64 → (u : Memory) → IsInTurn names target (behind k first) s u → value_of limits in_memory (int_view e) None u ≡ Ok (Int (paced pace k))
+-- an int goes so through the turns of a row's indices
+abbrev pub GoesAt : Limits → Names → ℕ → Row → Memory → IntExpr → Pace → Type 0
+GoesAt limits names target row s e pace =
+    (k : ℕ) → k < 64 → (u : Memory) → IsInTurn names target (behind k row) s u → value_of limits in_memory (int_view e) None u ≡ Ok (Int (paced row.step pace k))
 
 -- the index that is found in a turn lies as far behind another as the turn behind the first
-abbrev pub GoesFrom : Limits → Names → ℕ → Index → Memory → IndexExpr → Index → Type 0
-GoesFrom limits names target first s index t =
-    (k : ℕ) → k < 64 → (u : Memory) → IsInTurn names target (behind k first) s u
-    → with_ok (values_of limits in_memory (index_exprs index) u) (λ vs. Ok (index_of vs)) ≡ Ok (behind k t)
+abbrev pub GoesFrom : Limits → Names → ℕ → Row → Memory → IndexExpr → Row → Type 0
+GoesFrom limits names target row s index at =
+    (k : ℕ) → k < 64 → (u : Memory) → IsInTurn names target (behind k row) s u
+    → with_ok (values_of limits in_memory (index_exprs index) u) (λ vs. Ok (index_of vs)) ≡ Ok (behind k at)

@@ -12,4 +12,4 @@ mod strip;
 mod turn_strips;
 
 pub use strip::{promoted_strip, repeated};
-pub use turn_strips::{turn_index, turn_strip};
+pub use turn_strips::{turn_row, turn_strip};

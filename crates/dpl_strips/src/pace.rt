@@ -10,47 +10,46 @@ ghost use Rattle.dpl_strips.specs.Strips.{IsInTurn, paced, FitsTurns, GoesIn, ea
 ghost use Rattle.dpl_strips.specs.declared.pace.Pace.TheVariants.{Steady as SteadyPace, Stepping as SteppingPace};
 
 use crate::number::{difference, sum};
-use dpl_domain::Index;
 use dpl_frame::{Arrays, Frame};
-use dpl_loop::STRIP;
+use dpl_loop::{Row, STRIP};
 use dpl_nodes::{IntExpr, Names};
 
-/// The int of each turn: the same in all turns of a strip; or this one in the first turn, and one more in each turn than in the one
-/// before.
+/// The int of each turn: the same in all turns of a strip; or this one in the first turn, and in each turn the row's step more than in the
+/// one before.
 #[derive(Clone, Copy)]
 pub(crate) enum Pace {
     Steady(i64),
     Stepping(i64),
 }
 
-// The pace of an int that steps, if it does so all through a strip without leaving its word.
-fn stepping(from: i64) -> Option<Pace>
-    ensures { IfSome result (λ p. FitsTurns p × (p ≡ SteppingPace from)) }
+// The pace of an int that steps along with a row, if it does so all through a strip without leaving its word.
+fn stepping(from: i64, step: i64) -> Option<Pace>
+    ensures { IfSome result (λ p. FitsTurns step p × (p ≡ SteppingPace from)) }
 {
-    from.checked_add(STRIP as i64 - 1)?;
+    from.checked_add(step.checked_mul(STRIP as i64 - 1)?)?;
     Some(Pace::Stepping(from))
 }
 
 impl Pace {
     // How the sum of two ints goes. Where both step there is no pace for it.
-    fn plus(self, other: Pace) -> Option<Pace>
-        ensures { IfSome result (λ p. FitsTurns p × ((k : ℕ) → k < 64 → wrap (paced self k +ℤ paced other k) ≡ paced p k)) }
+    fn plus(self, other: Pace, step: i64) -> Option<Pace>
+        ensures { IfSome result (λ p. FitsTurns step p × ((k : ℕ) → k < 64 → wrap (paced step self k +ℤ paced step other k) ≡ paced step p k)) }
     {
         match (self, other) {
             (Pace::Steady(a), Pace::Steady(b)) => Some(Pace::Steady(sum(a, b))),
-            (Pace::Stepping(a), Pace::Steady(b)) => stepping(a.checked_add(b)?),
-            (Pace::Steady(a), Pace::Stepping(b)) => stepping(a.checked_add(b)?),
+            (Pace::Stepping(a), Pace::Steady(b)) => stepping(a.checked_add(b)?, step),
+            (Pace::Steady(a), Pace::Stepping(b)) => stepping(a.checked_add(b)?, step),
             (Pace::Stepping(_), Pace::Stepping(_)) => None,
         }
     }
 
     // How their difference goes. There is no pace where the second one steps.
-    fn minus(self, other: Pace) -> Option<Pace>
-        ensures { IfSome result (λ p. FitsTurns p × ((k : ℕ) → k < 64 → wrap (paced self k -ℤ paced other k) ≡ paced p k)) }
+    fn minus(self, other: Pace, step: i64) -> Option<Pace>
+        ensures { IfSome result (λ p. FitsTurns step p × ((k : ℕ) → k < 64 → wrap (paced step self k -ℤ paced step other k) ≡ paced step p k)) }
     {
         match (self, other) {
             (Pace::Steady(a), Pace::Steady(b)) => Some(Pace::Steady(difference(a, b))),
-            (Pace::Stepping(a), Pace::Steady(b)) => stepping(a.checked_sub(b)?),
+            (Pace::Stepping(a), Pace::Steady(b)) => stepping(a.checked_sub(b)?, step),
             (_, Pace::Stepping(_)) => None,
         }
     }
@@ -63,10 +62,11 @@ fn after<A: Arrays>(
     variable: usize,
     held: Pace,
     before: Option<Pace>,
+    step: i64,
     frame: &Frame<A>,
 ) -> Option<Pace>
-    ensures { (numbers : ℕ → List ℤ) → ((k : ℕ) → length (numbers k) ≡ length frame.now.memory.words.numbers) → IfSome before (GoesIn numbers slot)
-        → IfSome result (GoesIn (λ k. set (numbers k) variable (paced held k)) slot) }
+    ensures { (numbers : ℕ → List ℤ) → ((k : ℕ) → length (numbers k) ≡ length frame.now.memory.words.numbers) → IfSome before (GoesIn step numbers slot)
+        → IfSome result (GoesIn step (λ k. set (numbers k) variable (paced step held k)) slot) }
 {
     if slot != variable {
         return before;
@@ -76,7 +76,7 @@ fn after<A: Arrays>(
     }
     match held {
         Pace::Steady(_) => Some(held),
-        Pace::Stepping(from) => stepping(from),
+        Pace::Stepping(from) => stepping(from, step),
     }
 }
 
@@ -86,62 +86,61 @@ fn each_held<A: Arrays>(
     slot: usize,
     variable: usize,
     others: &[usize],
-    first: Index,
+    row: Row,
     frame: &Frame<A>,
 ) -> Option<Pace>
-    ensures { IfSome result (GoesIn (λ k. each_put (variable ∷ others.now) (behind k first) frame.now.memory.words.numbers) slot) }
+    ensures { IfSome result (GoesIn row.step (λ k. each_put (variable ∷ others.now) (behind k row) frame.now.memory.words.numbers) slot) }
 {
     let before = Some(Pace::Steady(frame.number(slot)));
-    let (outer, middle, inner) = first.numbers();
-    match (first.rank(), others.len()) {
-        (1, 0) => after(slot, variable, Pace::Stepping(inner), before, frame),
+    let (outer, middle, inner) = row.first.numbers();
+    match (row.first.rank(), others.len()) {
+        (1, 0) => after(slot, variable, Pace::Stepping(inner), before, row.step, frame),
         (2, 1) => {
-            let before = after(slot, variable, Pace::Steady(middle), before, frame);
-            after(slot, others[0], Pace::Stepping(inner), before, frame)
+            let before = after(slot, variable, Pace::Steady(middle), before, row.step, frame);
+            after(slot, others[0], Pace::Stepping(inner), before, row.step, frame)
         }
         (3, 2) => {
-            let before = after(slot, variable, Pace::Steady(outer), before, frame);
-            let before = after(slot, others[0], Pace::Steady(middle), before, frame);
-            after(slot, others[1], Pace::Stepping(inner), before, frame)
+            let before = after(slot, variable, Pace::Steady(outer), before, row.step, frame);
+            let before = after(slot, others[0], Pace::Steady(middle), before, row.step, frame);
+            after(slot, others[1], Pace::Stepping(inner), before, row.step, frame)
         }
         _ => None,
     }
 }
 
 // How the word in a slot goes, by what the variables of the loop hold.
-fn local<A: Arrays>(slot: usize, names: &Names<'_>, first: Index, frame: &Frame<A>) -> Option<Pace>
-    ensures { IfSome result (GoesIn (turn_numbers names.now first frame.now.memory) slot) }
+fn local<A: Arrays>(slot: usize, names: &Names<'_>, row: Row, frame: &Frame<A>) -> Option<Pace>
+    ensures { IfSome result (GoesIn row.step (turn_numbers names.now row frame.now.memory) slot) }
 {
     match names {
         Names::Tuple(_) => Some(Pace::Steady(frame.number(slot))),
-        Names::Int(variable) if first.rank() == 1 => each_held(slot, *variable, &[], first, frame),
+        Names::Int(variable) if row.first.rank() == 1 => each_held(slot, *variable, &[], row, frame),
         Names::Int(_) => None,
-        Names::Each(variable, others) => each_held(slot, *variable, others, first, frame),
+        Names::Each(variable, others) => each_held(slot, *variable, others, row, frame),
     }
 }
 
-/// How an int goes through the turns of an index and of those behind it, as far as that is told by its text and by what the frame
-/// holds. An int in which an element, a quotient or more than sums and differences stand has no pace, nor has one in which the slot
+/// How an int goes through the turns of a row's indices, as far as that is told by its text and by what the frame holds. An int in which an element, a quotient or more than sums and differences stand has no pace, nor has one in which the slot
 /// stands that the turns may write.
 pub(crate) fn pace_of<A: Arrays>(
     e: &IntExpr<'_>,
     names: &Names<'_>,
     target: usize,
-    first: Index,
+    row: Row,
     frame: &Frame<A>,
 ) -> Option<Pace>
-    ensures { IfSome result (λ p. FitsTurns p × GoesAt frame.now.limits names.now target first frame.now.memory e.now p) }
+    ensures { IfSome result (λ p. FitsTurns row.step p × GoesAt frame.now.limits names.now target row frame.now.memory e.now p) }
 {
     match e {
         IntExpr::Number(n) => Some(Pace::Steady(*n)),
-        IntExpr::Local(slot) if *slot != target => local(*slot, names, first, frame),
+        IntExpr::Local(slot) if *slot != target => local(*slot, names, row, frame),
         IntExpr::Sum(a, b) => {
-            let left = pace_of(a, names, target, first, frame)?;
-            left.plus(pace_of(b, names, target, first, frame)?)
+            let left = pace_of(a, names, target, row, frame)?;
+            left.plus(pace_of(b, names, target, row, frame)?, row.step)
         }
         IntExpr::Difference(a, b) => {
-            let left = pace_of(a, names, target, first, frame)?;
-            left.minus(pace_of(b, names, target, first, frame)?)
+            let left = pace_of(a, names, target, row, frame)?;
+            left.minus(pace_of(b, names, target, row, frame)?, row.step)
         }
         _ => None,
     }
@@ -152,12 +151,12 @@ pub(crate) fn steady<A: Arrays>(
     e: &IntExpr<'_>,
     names: &Names<'_>,
     target: usize,
-    first: Index,
+    row: Row,
     frame: &Frame<A>,
 ) -> Option<i64>
-    ensures { IfSome result (λ n. GoesAt frame.now.limits names.now target first frame.now.memory e.now (SteadyPace n)) }
+    ensures { IfSome result (λ n. GoesAt frame.now.limits names.now target row frame.now.memory e.now (SteadyPace n)) }
 {
-    match pace_of(e, names, target, first, frame)? {
+    match pace_of(e, names, target, row, frame)? {
         Pace::Steady(n) => Some(n),
         Pace::Stepping(_) => None,
     }
@@ -168,12 +167,12 @@ pub(crate) fn first_step<A: Arrays>(
     e: &IntExpr<'_>,
     names: &Names<'_>,
     target: usize,
-    first: Index,
+    row: Row,
     frame: &Frame<A>,
 ) -> Option<i64>
-    ensures { IfSome result (λ n. GoesAt frame.now.limits names.now target first frame.now.memory e.now (SteppingPace n)) }
+    ensures { IfSome result (λ n. GoesAt frame.now.limits names.now target row frame.now.memory e.now (SteppingPace n)) }
 {
-    match pace_of(e, names, target, first, frame)? {
+    match pace_of(e, names, target, row, frame)? {
         Pace::Steady(_) => None,
         Pace::Stepping(from) => Some(from),
     }

@@ -16,26 +16,25 @@ ghost use Rattle.dpl_nodes.specs.Typed.{promoted_int};
 ghost use Rattle.dpl_strips.specs.Strips.{HoldsAtIndices};
 
 use crate::number::{difference, negative, product, quotient, remainder, sum};
-use dpl_domain::Index;
 use dpl_frame::{Arrays, Frame};
-use dpl_loop::{STRIP, Strip};
+use dpl_loop::{Row, STRIP, Strip};
 use dpl_nodes::{IntExpr, PromotedInt};
 
-/// One int at all indices of a strip.
-pub fn repeated(first: Index, word: i64) -> Strip
-    ensures first { result.first ≡ first }
+/// One int at all indices of a row.
+pub fn repeated(row: Row, word: i64) -> Strip
+    ensures row { result.row ≡ row }
     ensures words { (k : ℕ) → k < 64 → get_or result.words k (pos 0) ≡ word }
 {
     Strip {
-        first,
+        row,
         words: [word; STRIP],
         size: STRIP,
     }
 }
 
 /// A strip of words that stand side by side.
-pub(crate) fn copied(first: Index, words: &[i64]) -> Strip
-    ensures first { result.first ≡ first }
+pub(crate) fn copied(row: Row, words: &[i64]) -> Strip
+    ensures row { result.row ≡ row }
     ensures words { (k : ℕ) → k < result.size → k < 64 → slice_get words.now k ≡ Some (get_or result.words k (pos 0)) }
 {
     let mut copies = [0; STRIP];
@@ -44,7 +43,7 @@ pub(crate) fn copied(first: Index, words: &[i64]) -> Strip
         copies[k] = words[k];
     }
     Strip {
-        first,
+        row,
         words: copies,
         size,
     }
@@ -54,7 +53,7 @@ pub(crate) fn copied(first: Index, words: &[i64]) -> Strip
 #[inline(always)]
 pub(crate) fn both<F: Fn(i64, i64) -> i64>(left: &Strip, right: &Strip, apply: F) -> Strip
     requires { F.IsAlwaysCallable apply }
-    ensures first { result.first ≡ left.now.first }
+    ensures row { result.row ≡ left.now.row }
     ensures left { (k : ℕ) → k < result.size → k < left.now.size }
     ensures right { (k : ℕ) → k < result.size → k < right.now.size }
     ensures words { (k : ℕ) → k < 64 → F.post apply (get_or left.now.words k (pos 0)) (get_or right.now.words k (pos 0)) (get_or result.words k (pos 0)) }
@@ -64,7 +63,7 @@ pub(crate) fn both<F: Fn(i64, i64) -> i64>(left: &Strip, right: &Strip, apply: F
         made[k] = apply(left.words[k], right.words[k]);
     }
     Strip {
-        first: left.first,
+        row: left.row,
         words: made,
         size: left.size.min(right.size),
     }
@@ -74,7 +73,7 @@ pub(crate) fn both<F: Fn(i64, i64) -> i64>(left: &Strip, right: &Strip, apply: F
 #[inline(always)]
 pub(crate) fn with_each<F: Fn(i64, i64) -> i64>(left: &Strip, right: i64, apply: F) -> Strip
     requires { F.IsAlwaysCallable apply }
-    ensures first { result.first ≡ left.now.first }
+    ensures row { result.row ≡ left.now.row }
     ensures size { result.size ≡ left.now.size }
     ensures words { (k : ℕ) → k < 64 → F.post apply (get_or left.now.words k (pos 0)) right (get_or result.words k (pos 0)) }
 {
@@ -83,7 +82,7 @@ pub(crate) fn with_each<F: Fn(i64, i64) -> i64>(left: &Strip, right: i64, apply:
         made[k] = apply(left.words[k], right);
     }
     Strip {
-        first: left.first,
+        row: left.row,
         words: made,
         size: left.size,
     }
@@ -91,7 +90,7 @@ pub(crate) fn with_each<F: Fn(i64, i64) -> i64>(left: &Strip, right: i64, apply:
 
 /// The ints of a strip with the other sign.
 pub(crate) fn negated(strip: &Strip) -> Strip
-    ensures first { result.first ≡ strip.now.first }
+    ensures row { result.row ≡ strip.now.row }
     ensures size { result.size ≡ strip.now.size }
     ensures words { (k : ℕ) → k < 64 → get_or result.words k (pos 0) ≡ wrap (neg_ℤ (get_or strip.now.words k (pos 0))) }
 {
@@ -100,7 +99,7 @@ pub(crate) fn negated(strip: &Strip) -> Strip
         negatives[k] = negative(strip.words[k]);
     }
     Strip {
-        first: strip.first,
+        row: strip.row,
         words: negatives,
         size: strip.size,
     }
@@ -109,7 +108,7 @@ pub(crate) fn negated(strip: &Strip) -> Strip
 /// The ints of a strip, each divided by one int.
 pub(crate) fn quotients(strip: &Strip, by: i64) -> Strip
     requires { by ≢ pos 0 }
-    ensures first { result.first ≡ strip.now.first }
+    ensures row { result.row ≡ strip.now.row }
     ensures size { result.size ≡ strip.now.size }
     ensures words { (k : ℕ) → k < 64 → get_or result.words k (pos 0) ≡ wrap (int_div (get_or strip.now.words k (pos 0)) by) }
 {
@@ -118,7 +117,7 @@ pub(crate) fn quotients(strip: &Strip, by: i64) -> Strip
         made[k] = quotient(strip.words[k], by);
     }
     Strip {
-        first: strip.first,
+        row: strip.row,
         words: made,
         size: strip.size,
     }
@@ -127,7 +126,7 @@ pub(crate) fn quotients(strip: &Strip, by: i64) -> Strip
 /// What each int of a strip leaves when it is divided by one int.
 pub(crate) fn remainders(strip: &Strip, by: i64) -> Strip
     requires { by ≢ pos 0 }
-    ensures first { result.first ≡ strip.now.first }
+    ensures row { result.row ≡ strip.now.row }
     ensures size { result.size ≡ strip.now.size }
     ensures words { (k : ℕ) → k < 64 → get_or result.words k (pos 0) ≡ wrap (int_rem (get_or strip.now.words k (pos 0)) by) }
 {
@@ -136,7 +135,7 @@ pub(crate) fn remainders(strip: &Strip, by: i64) -> Strip
         made[k] = remainder(strip.words[k], by);
     }
     Strip {
-        first: strip.first,
+        row: strip.row,
         words: made,
         size: strip.size,
     }
@@ -156,25 +155,25 @@ fn steady<A: Arrays>(e: &PromotedInt<'_>, frame: &Frame<A>) -> Option<i64>
 
 // One int, if it is at hand, everywhere.
 #[inline(never)]
-fn scalars<A: Arrays>(e: &PromotedInt<'_>, first: Index, frame: &Frame<A>) -> Strip
-    ensures first { result.first ≡ first }
+fn scalars<A: Arrays>(e: &PromotedInt<'_>, row: Row, frame: &Frame<A>) -> Strip
+    ensures row { result.row ≡ row }
     ensures values { HoldsAtIndices (λ i u. value_of frame.now.limits in_memory (promoted_int EachTurn e.now) (Some i) u) frame.now.memory result }
 {
     match steady(e, frame) {
-        Some(n) => repeated(first, n),
-        None => Strip::none(first),
+        Some(n) => repeated(row, n),
+        None => Strip::none(row),
     }
 }
 
 // Promoted ints with the other sign.
 #[cycle(promoted)]
 #[inline(never)]
-fn negatives<A: Arrays>(e: &PromotedInt<'_>, first: Index, frame: &Frame<A>) -> Strip
-    ensures first { result.first ≡ first }
+fn negatives<A: Arrays>(e: &PromotedInt<'_>, row: Row, frame: &Frame<A>) -> Strip
+    ensures row { result.row ≡ row }
     ensures values { HoldsAtIndices (λ i u. value_of frame.now.limits in_memory (Prefixed nowhere Minus (promoted_int EachTurn e.now))
         (Some i) u) frame.now.memory result }
 {
-    negated(&promoted_strip(e, first, frame))
+    negated(&promoted_strip(e, row, frame))
 }
 
 // Sums of promoted ints.
@@ -183,17 +182,17 @@ fn negatives<A: Arrays>(e: &PromotedInt<'_>, first: Index, frame: &Frame<A>) -> 
 fn sums<A: Arrays>(
     a: &PromotedInt<'_>,
     b: &PromotedInt<'_>,
-    first: Index,
+    row: Row,
     frame: &Frame<A>,
 ) -> Strip
-    ensures first { result.first ≡ first }
+    ensures row { result.row ≡ row }
     ensures values { HoldsAtIndices (λ i u. value_of frame.now.limits in_memory
         (two (promoted_int EachTurn a.now) nowhere Add (promoted_int EachTurn b.now)) (Some i) u) frame.now.memory result }
 {
-    let left = promoted_strip(a, first, frame);
+    let left = promoted_strip(a, row, frame);
     match steady(b, frame) {
         Some(n) => with_each(&left, n, sum),
-        None => both(&left, &promoted_strip(b, first, frame), sum),
+        None => both(&left, &promoted_strip(b, row, frame), sum),
     }
 }
 
@@ -203,17 +202,17 @@ fn sums<A: Arrays>(
 fn differences<A: Arrays>(
     a: &PromotedInt<'_>,
     b: &PromotedInt<'_>,
-    first: Index,
+    row: Row,
     frame: &Frame<A>,
 ) -> Strip
-    ensures first { result.first ≡ first }
+    ensures row { result.row ≡ row }
     ensures values { HoldsAtIndices (λ i u. value_of frame.now.limits in_memory
         (two (promoted_int EachTurn a.now) nowhere Subtract (promoted_int EachTurn b.now)) (Some i) u) frame.now.memory result }
 {
-    let left = promoted_strip(a, first, frame);
+    let left = promoted_strip(a, row, frame);
     match steady(b, frame) {
         Some(n) => with_each(&left, n, difference),
-        None => both(&left, &promoted_strip(b, first, frame), difference),
+        None => both(&left, &promoted_strip(b, row, frame), difference),
     }
 }
 
@@ -223,17 +222,17 @@ fn differences<A: Arrays>(
 fn products<A: Arrays>(
     a: &PromotedInt<'_>,
     b: &PromotedInt<'_>,
-    first: Index,
+    row: Row,
     frame: &Frame<A>,
 ) -> Strip
-    ensures first { result.first ≡ first }
+    ensures row { result.row ≡ row }
     ensures values { HoldsAtIndices (λ i u. value_of frame.now.limits in_memory
         (two (promoted_int EachTurn a.now) nowhere Multiply (promoted_int EachTurn b.now)) (Some i) u) frame.now.memory result }
 {
-    let left = promoted_strip(a, first, frame);
+    let left = promoted_strip(a, row, frame);
     match steady(b, frame) {
         Some(n) => with_each(&left, n, product),
-        None => both(&left, &promoted_strip(b, first, frame), product),
+        None => both(&left, &promoted_strip(b, row, frame), product),
     }
 }
 
@@ -243,16 +242,16 @@ fn products<A: Arrays>(
 fn divided<A: Arrays>(
     a: &PromotedInt<'_>,
     b: &PromotedInt<'_>,
-    first: Index,
+    row: Row,
     frame: &Frame<A>,
 ) -> Strip
-    ensures first { result.first ≡ first }
+    ensures row { result.row ≡ row }
     ensures values { (at : Place) → HoldsAtIndices (λ i u. value_of frame.now.limits in_memory
         (two (promoted_int EachTurn a.now) at Divide (promoted_int EachTurn b.now)) (Some i) u) frame.now.memory result }
 {
     match steady(b, frame) {
-        Some(n) if n != 0 => quotients(&promoted_strip(a, first, frame), n),
-        _ => Strip::none(first),
+        Some(n) if n != 0 => quotients(&promoted_strip(a, row, frame), n),
+        _ => Strip::none(row),
     }
 }
 
@@ -262,34 +261,34 @@ fn divided<A: Arrays>(
 fn left_over<A: Arrays>(
     a: &PromotedInt<'_>,
     b: &PromotedInt<'_>,
-    first: Index,
+    row: Row,
     frame: &Frame<A>,
 ) -> Strip
-    ensures first { result.first ≡ first }
+    ensures row { result.row ≡ row }
     ensures values { (at : Place) → HoldsAtIndices (λ i u. value_of frame.now.limits in_memory
         (two (promoted_int EachTurn a.now) at Remainder (promoted_int EachTurn b.now)) (Some i) u) frame.now.memory result }
 {
     match steady(b, frame) {
-        Some(n) if n != 0 => remainders(&promoted_strip(a, first, frame), n),
-        _ => Strip::none(first),
+        Some(n) if n != 0 => remainders(&promoted_strip(a, row, frame), n),
+        _ => Strip::none(row),
     }
 }
 
-/// The values of a promoted int at an index and at those behind it in the last dimension, as far as they are found at once. There may be
-/// none. They stay the values there while elements at other indices change.
+/// The values of a promoted int at the indices of a row, as far as they are found at once. There may be none. They stay the values there
+/// while elements at other indices change.
 #[cycle(promoted)]
-pub fn promoted_strip<A: Arrays>(e: &PromotedInt<'_>, first: Index, frame: &Frame<A>) -> Strip
-    ensures first { result.first ≡ first }
+pub fn promoted_strip<A: Arrays>(e: &PromotedInt<'_>, row: Row, frame: &Frame<A>) -> Strip
+    ensures row { result.row ≡ row }
     ensures values { HoldsAtIndices (λ i u. value_of frame.now.limits in_memory (promoted_int EachTurn e.now) (Some i) u) frame.now.memory result }
 {
     match e {
-        PromotedInt::Scalar(_) => scalars(e, first, frame),
-        PromotedInt::Element(slot, _) => copied(first, frame.run(*slot, first)),
-        PromotedInt::Negative(e) => negatives(e, first, frame),
-        PromotedInt::Sum(a, b) => sums(a, b, first, frame),
-        PromotedInt::Difference(a, b) => differences(a, b, first, frame),
-        PromotedInt::Product(a, b) => products(a, b, first, frame),
-        PromotedInt::Quotient(a, b, _) => divided(a, b, first, frame),
-        PromotedInt::Remainder(a, b, _) => left_over(a, b, first, frame),
+        PromotedInt::Scalar(_) => scalars(e, row, frame),
+        PromotedInt::Element(slot, _) => copied(row, frame.run(*slot, row)),
+        PromotedInt::Negative(e) => negatives(e, row, frame),
+        PromotedInt::Sum(a, b) => sums(a, b, row, frame),
+        PromotedInt::Difference(a, b) => differences(a, b, row, frame),
+        PromotedInt::Product(a, b) => products(a, b, row, frame),
+        PromotedInt::Quotient(a, b, _) => divided(a, b, row, frame),
+        PromotedInt::Remainder(a, b, _) => left_over(a, b, row, frame),
     }
 }

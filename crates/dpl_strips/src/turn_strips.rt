@@ -16,79 +16,82 @@ use crate::index::{coordinate, plane, space};
 use crate::number::{difference, product, sum};
 use crate::pace::{Pace, first_step, pace_of, steady};
 use crate::strip::{both, copied, negated, quotients, remainders, repeated, with_each};
-use dpl_domain::Index;
 use dpl_frame::{Arrays, Frame};
-use dpl_loop::{STRIP, Strip};
+use dpl_loop::{Row, STRIP, Strip};
 use dpl_nodes::{IndexExpr, IntExpr, Names};
 
-// Ints that follow one another.
-fn counted(first: Index, from: i64) -> Strip
-    ensures first { result.first ≡ first }
-    ensures words { (k : ℕ) → k < 64 → get_or result.words k (pos 0) ≡ wrap (from +ℤ pos k) }
+// Ints that follow one another by the row's step.
+fn counted(row: Row, from: i64) -> Strip
+    ensures row { result.row ≡ row }
+    ensures words { (k : ℕ) → k < 64 → get_or result.words k (pos 0) ≡ wrap (from +ℤ wrap (row.step *ℤ pos k)) }
 {
     let mut words = [0; STRIP];
     for k in 0..STRIP {
-        words[k] = sum(from, k as i64);
+        words[k] = sum(from, product(row.step, k as i64));
     }
     Strip {
-        first,
+        row,
         words,
         size: STRIP,
     }
 }
 
 // The ints of one that goes so.
-fn of_pace(first: Index, pace: Pace) -> Strip
-    ensures first { result.first ≡ first }
-    ensures words { FitsTurns pace → (k : ℕ) → k < 64 → get_or result.words k (pos 0) ≡ paced pace k }
+fn of_pace(row: Row, pace: Pace) -> Strip
+    ensures row { result.row ≡ row }
+    ensures words { FitsTurns row.step pace → (k : ℕ) → k < 64 → get_or result.words k (pos 0) ≡ paced row.step pace k }
 {
     match pace {
-        Pace::Steady(n) => repeated(first, n),
-        Pace::Stepping(from) => counted(first, from),
+        Pace::Steady(n) => repeated(row, n),
+        Pace::Stepping(from) => counted(row, from),
     }
 }
 
-// The index that a tuple's slot holds in the first turn, if it holds that of each turn.
-fn tuple_index<A: Arrays>(
+// The row that a tuple's slot holds, if it holds the index of each turn.
+fn tuple_row<A: Arrays>(
     slot: usize,
     names: &Names<'_>,
     target: usize,
-    first: Index,
+    row: Row,
     frame: &Frame<A>,
-) -> Option<Index>
-    ensures { IfSome result (λ t. GoesFrom frame.now.limits names.now target first frame.now.memory (TupleIndex slot) t) }
+) -> Option<Row>
+    ensures { IfSome result (λ at. GoesFrom frame.now.limits names.now target row frame.now.memory (TupleIndex slot) at) }
 {
     match names {
-        Names::Tuple(variable) if *variable == slot && frame.has_tuple(slot) => Some(first),
+        Names::Tuple(variable) if *variable == slot && frame.has_tuple(slot) => Some(row),
         _ => None,
     }
 }
 
-/// The index that the first turn finds, where each turn finds one so far behind it as the turn's own lies behind the first.
-pub fn turn_index<A: Arrays>(
+/// The row of the indices that the turns find, where each finds one as far behind the first turn's as its own lies behind the first.
+pub fn turn_row<A: Arrays>(
     index: &IndexExpr<'_>,
     names: &Names<'_>,
     target: usize,
-    first: Index,
+    row: Row,
     frame: &Frame<A>,
-) -> Option<Index>
-    ensures { IfSome result (λ t. GoesFrom frame.now.limits names.now target first frame.now.memory index.now t) }
+) -> Option<Row>
+    ensures { IfSome result (λ at. GoesFrom frame.now.limits names.now target row frame.now.memory index.now at) }
 {
-    match index {
-        IndexExpr::Line(i) => Some(coordinate(first_step(i, names, target, first, frame)?)),
+    let first = match index {
+        IndexExpr::Line(i) => coordinate(first_step(i, names, target, row, frame)?),
         IndexExpr::Plane(i, j) => {
-            let i = steady(i, names, target, first, frame)?;
-            let j = first_step(j, names, target, first, frame)?;
-            Some(plane(i, j))
+            let i = steady(i, names, target, row, frame)?;
+            let j = first_step(j, names, target, row, frame)?;
+            plane(i, j)
         }
         IndexExpr::Space(i, j, k) => {
-            let i = steady(i, names, target, first, frame)?;
-            let j = steady(j, names, target, first, frame)?;
-            let k = first_step(k, names, target, first, frame)?;
-            Some(space(i, j, k))
+            let i = steady(i, names, target, row, frame)?;
+            let j = steady(j, names, target, row, frame)?;
+            let k = first_step(k, names, target, row, frame)?;
+            space(i, j, k)
         }
-        IndexExpr::Tuple(slot) => tuple_index(*slot, names, target, first, frame),
-    }
+        IndexExpr::Tuple(slot) => return tuple_row(*slot, names, target, row, frame),
+    };
+    Some(Row {
+        first,
+        step: row.step,
+    })
 }
 
 // The elements of an array that the turns find, where they lie side by side and no turn writes them.
@@ -97,20 +100,20 @@ fn of_element<A: Arrays>(
     index: &IndexExpr<'_>,
     names: &Names<'_>,
     target: usize,
-    first: Index,
+    row: Row,
     frame: &Frame<A>,
 ) -> Strip
-    ensures first { result.first ≡ first }
+    ensures row { result.row ≡ row }
     ensures values { (at : Place)
         → HoldsInTurns names.now target (λ u. value_of frame.now.limits in_memory
         (in_square (array_named IntKind slot at) (index_items index.now)) None u) frame.now.memory result }
 {
     if slot == target {
-        return Strip::none(first);
+        return Strip::none(row);
     }
-    match turn_index(index, names, target, first, frame) {
-        Some(index) => copied(first, frame.run(slot, index)),
-        None => Strip::none(first),
+    match turn_row(index, names, target, row, frame) {
+        Some(at) => copied(row, frame.run(slot, at)),
+        None => Strip::none(row),
     }
 }
 
@@ -120,15 +123,15 @@ fn of_leaf<A: Arrays>(
     e: &IntExpr<'_>,
     names: &Names<'_>,
     target: usize,
-    first: Index,
+    row: Row,
     frame: &Frame<A>,
 ) -> Strip
-    ensures first { result.first ≡ first }
+    ensures row { result.row ≡ row }
     ensures values { HoldsInTurns names.now target (λ u. value_of frame.now.limits in_memory (int_view e.now) None u) frame.now.memory result }
 {
-    match pace_of(e, names, target, first, frame) {
-        Some(pace) => of_pace(first, pace),
-        None => Strip::none(first),
+    match pace_of(e, names, target, row, frame) {
+        Some(pace) => of_pace(row, pace),
+        None => Strip::none(row),
     }
 }
 
@@ -139,14 +142,14 @@ fn negatives<A: Arrays>(
     e: &IntExpr<'_>,
     names: &Names<'_>,
     target: usize,
-    first: Index,
+    row: Row,
     frame: &Frame<A>,
 ) -> Strip
-    ensures first { result.first ≡ first }
+    ensures row { result.row ≡ row }
     ensures values { HoldsInTurns names.now target (λ u. value_of frame.now.limits in_memory
         (Prefixed nowhere Minus (int_view e.now)) None u) frame.now.memory result }
 {
-    negated(&turn_strip(e, names, target, first, frame))
+    negated(&turn_strip(e, names, target, row, frame))
 }
 
 // Sums.
@@ -157,17 +160,17 @@ fn sums<A: Arrays>(
     b: &IntExpr<'_>,
     names: &Names<'_>,
     target: usize,
-    first: Index,
+    row: Row,
     frame: &Frame<A>,
 ) -> Strip
-    ensures first { result.first ≡ first }
+    ensures row { result.row ≡ row }
     ensures values { HoldsInTurns names.now target (λ u. value_of frame.now.limits in_memory
         (two (int_view a.now) nowhere Add (int_view b.now)) None u) frame.now.memory result }
 {
-    let left = turn_strip(a, names, target, first, frame);
-    match steady(b, names, target, first, frame) {
+    let left = turn_strip(a, names, target, row, frame);
+    match steady(b, names, target, row, frame) {
         Some(n) => with_each(&left, n, sum),
-        None => both(&left, &turn_strip(b, names, target, first, frame), sum),
+        None => both(&left, &turn_strip(b, names, target, row, frame), sum),
     }
 }
 
@@ -179,19 +182,19 @@ fn differences<A: Arrays>(
     b: &IntExpr<'_>,
     names: &Names<'_>,
     target: usize,
-    first: Index,
+    row: Row,
     frame: &Frame<A>,
 ) -> Strip
-    ensures first { result.first ≡ first }
+    ensures row { result.row ≡ row }
     ensures values { HoldsInTurns names.now target (λ u. value_of frame.now.limits in_memory
         (two (int_view a.now) nowhere Subtract (int_view b.now)) None u) frame.now.memory result }
 {
-    let left = turn_strip(a, names, target, first, frame);
-    match steady(b, names, target, first, frame) {
+    let left = turn_strip(a, names, target, row, frame);
+    match steady(b, names, target, row, frame) {
         Some(n) => with_each(&left, n, difference),
         None => both(
             &left,
-            &turn_strip(b, names, target, first, frame),
+            &turn_strip(b, names, target, row, frame),
             difference,
         ),
     }
@@ -205,17 +208,17 @@ fn products<A: Arrays>(
     b: &IntExpr<'_>,
     names: &Names<'_>,
     target: usize,
-    first: Index,
+    row: Row,
     frame: &Frame<A>,
 ) -> Strip
-    ensures first { result.first ≡ first }
+    ensures row { result.row ≡ row }
     ensures values { HoldsInTurns names.now target (λ u. value_of frame.now.limits in_memory
         (two (int_view a.now) nowhere Multiply (int_view b.now)) None u) frame.now.memory result }
 {
-    let left = turn_strip(a, names, target, first, frame);
-    match steady(b, names, target, first, frame) {
+    let left = turn_strip(a, names, target, row, frame);
+    match steady(b, names, target, row, frame) {
         Some(n) => with_each(&left, n, product),
-        None => both(&left, &turn_strip(b, names, target, first, frame), product),
+        None => both(&left, &turn_strip(b, names, target, row, frame), product),
     }
 }
 
@@ -227,16 +230,16 @@ fn divided<A: Arrays>(
     b: &IntExpr<'_>,
     names: &Names<'_>,
     target: usize,
-    first: Index,
+    row: Row,
     frame: &Frame<A>,
 ) -> Strip
-    ensures first { result.first ≡ first }
+    ensures row { result.row ≡ row }
     ensures values { (at : Place) → HoldsInTurns names.now target (λ u. value_of frame.now.limits in_memory
         (two (int_view a.now) at Divide (int_view b.now)) None u) frame.now.memory result }
 {
-    match steady(b, names, target, first, frame) {
-        Some(n) if n != 0 => quotients(&turn_strip(a, names, target, first, frame), n),
-        _ => Strip::none(first),
+    match steady(b, names, target, row, frame) {
+        Some(n) if n != 0 => quotients(&turn_strip(a, names, target, row, frame), n),
+        _ => Strip::none(row),
     }
 }
 
@@ -248,41 +251,40 @@ fn left_over<A: Arrays>(
     b: &IntExpr<'_>,
     names: &Names<'_>,
     target: usize,
-    first: Index,
+    row: Row,
     frame: &Frame<A>,
 ) -> Strip
-    ensures first { result.first ≡ first }
+    ensures row { result.row ≡ row }
     ensures values { (at : Place) → HoldsInTurns names.now target (λ u. value_of frame.now.limits in_memory
         (two (int_view a.now) at Remainder (int_view b.now)) None u) frame.now.memory result }
 {
-    match steady(b, names, target, first, frame) {
-        Some(n) if n != 0 => remainders(&turn_strip(a, names, target, first, frame), n),
-        _ => Strip::none(first),
+    match steady(b, names, target, row, frame) {
+        Some(n) if n != 0 => remainders(&turn_strip(a, names, target, row, frame), n),
+        _ => Strip::none(row),
     }
 }
 
-/// The ints of an expression in the turns of an index and of those behind it in the last dimension, as far as they are found at once.
-/// There may be none. The turns may write the word or the array in one slot, which is not read here.
+/// The ints of an expression in the turns of a row's indices, as far as they are found at once. There may be none. The turns may write the word or the array in one slot, which is not read here.
 #[cycle(turns)]
 pub fn turn_strip<A: Arrays>(
     e: &IntExpr<'_>,
     names: &Names<'_>,
     target: usize,
-    first: Index,
+    row: Row,
     frame: &Frame<A>,
 ) -> Strip
-    ensures first { result.first ≡ first }
+    ensures row { result.row ≡ row }
     ensures values { HoldsInTurns names.now target (λ u. value_of frame.now.limits in_memory (int_view e.now) None u) frame.now.memory result }
 {
     match e {
-        IntExpr::Number(_) | IntExpr::Local(_) => of_leaf(e, names, target, first, frame),
-        IntExpr::Element(slot, index, _) => of_element(*slot, index, names, target, first, frame),
-        IntExpr::Negative(e) => negatives(e, names, target, first, frame),
-        IntExpr::Sum(a, b) => sums(a, b, names, target, first, frame),
-        IntExpr::Difference(a, b) => differences(a, b, names, target, first, frame),
-        IntExpr::Product(a, b) => products(a, b, names, target, first, frame),
-        IntExpr::Quotient(a, b, _) => divided(a, b, names, target, first, frame),
-        IntExpr::Remainder(a, b, _) => left_over(a, b, names, target, first, frame),
-        _ => Strip::none(first),
+        IntExpr::Number(_) | IntExpr::Local(_) => of_leaf(e, names, target, row, frame),
+        IntExpr::Element(slot, index, _) => of_element(*slot, index, names, target, row, frame),
+        IntExpr::Negative(e) => negatives(e, names, target, row, frame),
+        IntExpr::Sum(a, b) => sums(a, b, names, target, row, frame),
+        IntExpr::Difference(a, b) => differences(a, b, names, target, row, frame),
+        IntExpr::Product(a, b) => products(a, b, names, target, row, frame),
+        IntExpr::Quotient(a, b, _) => divided(a, b, names, target, row, frame),
+        IntExpr::Remainder(a, b, _) => left_over(a, b, names, target, row, frame),
+        _ => Strip::none(row),
     }
 }

@@ -18,7 +18,7 @@ use crate::reduction::Ints;
 use crate::team::Alone;
 use dpl_domain::Index;
 use dpl_frame::{Alarm, Frame, Truth, Turn};
-use dpl_loop::{Dealt, Gate, Operator, Strip, reduce_by_workers};
+use dpl_loop::{Dealt, Gate, Operator, Row, Strip, reduce_by_workers};
 use dpl_nodes::{IntFold, PromotedInt, PromotedTruth, Spot, TruthFold};
 use dpl_strips::promoted_strip;
 use std::thread::Threads;
@@ -73,9 +73,9 @@ pub fn reduced_int_by_workers<R: Threads + Sync, G: Gate + Sync>(
         ensures { Tells (MayRefuseReduction (G.may_refuse gate.entry.now) frame.entry.now (EachInInts e.entry.now)) Int turn.new result
             (int_at frame.entry.now e.entry.now index) }
     { operand(e, &index, frame, &Alone::at(gate), turn) };
-    let strip_at = |index: Index| -> Strip
-        ensures { (result.first ≡ index) × HoldsStrip Int (λ i. int_at frame.entry.now e.entry.now i) result }
-    { promoted_strip(e, index, frame) };
+    let strip_at = |row: Row| -> Strip
+        ensures { (result.row ≡ row) × HoldsStrip Int (λ i. int_at frame.entry.now e.entry.now i) result }
+    { promoted_strip(e, row, frame) };
     let map = frame.owner(slot);
     let dealt = Dealt {
         over,
@@ -122,9 +122,9 @@ pub fn reduced_truth_by_workers<R: Threads + Sync, G: Gate + Sync>(
             Err(alarm) => Err(alarm),
         }
     };
-    let strip_at = |index: Index| -> Strip
-        ensures { (result.first ≡ index) × (result.size ≡ 0) }
-    { Strip::none(index) };
+    let strip_at = |row: Row| -> Strip
+        ensures { (result.row ≡ row) × (result.size ≡ 0) }
+    { Strip::none(row) };
     let map = frame.owner(slot);
     let dealt = Dealt {
         over,

@@ -20,7 +20,7 @@ use crate::promoted::{int_array, operand, promoted_truth_value, truth_array};
 use crate::team::Team;
 use dpl_domain::Index;
 use dpl_frame::{Alarm, Arrays, Frame, Truth, Turn};
-use dpl_loop::{Gate, Operator, Strip, reduce, reduce_ints};
+use dpl_loop::{Gate, Operator, Row, Strip, reduce, reduce_ints};
 use dpl_nodes::{IntFold, PromotedInt, PromotedTruth, Spot, TruthFold};
 use dpl_strips::promoted_strip;
 
@@ -103,7 +103,7 @@ fn folded<A: Arrays, O: Operator, F: Fn(Index, &mut Turn) -> Result<O::Item, Ala
 fn folded_ints<
     A: Arrays,
     F: Fn(Index, &mut Turn) -> Result<i64, Alarm>,
-    S: Fn(Index) -> Strip,
+    S: Fn(Row) -> Strip,
     G: Gate,
 >(
     operator: &Ints,
@@ -180,9 +180,9 @@ fn reduced_int_here<G: Team>(
         ensures { Tells (MayRefuseReduction (G.may_refuse gate.entry.now) frame.entry.now (EachInInts e.entry.now)) Int turn.new result
             (int_at frame.entry.now e.entry.now index) }
     { operand(e, &index, frame, gate, turn) };
-    let strip_at = |index: Index| -> Strip
-        ensures { (result.first ≡ index) × HoldsStrip Int (λ i. int_at frame.entry.now e.entry.now i) result }
-    { promoted_strip(e, index, frame) };
+    let strip_at = |row: Row| -> Strip
+        ensures { (result.row ≡ row) × HoldsStrip Int (λ i. int_at frame.entry.now e.entry.now i) result }
+    { promoted_strip(e, row, frame) };
     folded_ints(&Ints { fold }, slot, frame, item_at, strip_at, gate, turn)
 }
 

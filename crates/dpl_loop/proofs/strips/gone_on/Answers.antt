@@ -42,22 +42,22 @@ returns-then-size-eq0-clause-folds g c meaning answers strips =
 
 pub all_enter-requires-clause-within : goal.all_enter-requires-clause-within
 all_enter-requires-clause-within g c =
-    run-within (indices c.args.domain.now) c.args.place c.in_row-size.result (λ k below. (behind k c.in-Some.index, c.in_row-size.ensures.row c.in-Some.index (sym c.in-Some.ensures) k below)) c.requires.place
+    run-within (indices c.args.domain.now) c.args.place c.min-size.result (λ k below. (behind k c.of-row.result.0, c.of-row.ensures.there k (omega (arith, below, c.min-size.ensures)))) c.requires.place
 
 pub all_enter-requires-clause-fits : goal.all_enter-requires-clause-fits
 all_enter-requires-clause-fits g c =
-    let within = run-within (indices c.args.domain.now) c.args.place c.in_row-size.result (λ k below. (behind k c.in-Some.index, c.in_row-size.ensures.row c.in-Some.index (sym c.in-Some.ensures) k below)) c.requires.place in
+    let within = run-within (indices c.args.domain.now) c.args.place c.min-size.result (λ k below. (behind k c.of-row.result.0, c.of-row.ensures.there k (omega (arith, below, c.min-size.ensures)))) c.requires.place in
     omega (arith, within, c.requires.small)
 
 pub overflow_add-result-2 : goal.overflow_add-result-2
 overflow_add-result-2 g c =
-    let within = run-within (indices c.args.domain.now) c.args.place c.in_row-size.result (λ k below. (behind k c.in-Some.index, c.in_row-size.ensures.row c.in-Some.index (sym c.in-Some.ensures) k below)) c.requires.place in
-    let fits : c.args.place + c.in_row-size.result < 2 ^ 64 = omega (arith, within, c.requires.small) in
+    let within = run-within (indices c.args.domain.now) c.args.place c.min-size.result (λ k below. (behind k c.of-row.result.0, c.of-row.ensures.there k (omega (arith, below, c.min-size.ensures)))) c.requires.place in
+    let fits : c.args.place + c.min-size.result < 2 ^ 64 = omega (arith, within, c.requires.small) in
     search (rules, fits)
 
 pub returns-clause-next : goal.returns-clause-next
 returns-clause-next g c =
-    let within = run-within (indices c.args.domain.now) c.args.place c.in_row-size.result (λ k below. (behind k c.in-Some.index, c.in_row-size.ensures.row c.in-Some.index (sym c.in-Some.ensures) k below)) c.requires.place in
+    let within = run-within (indices c.args.domain.now) c.args.place c.min-size.result (λ k below. (behind k c.of-row.result.0, c.of-row.ensures.there k (omega (arith, below, c.min-size.ensures)))) c.requires.place in
     (omega (arith, c.if-size-eq0.false), within)
 
 pub returns-clause-folds : goal.returns-clause-folds
@@ -66,12 +66,13 @@ returns-clause-folds g c meaning answers strips =
     let value = g.O.Operator.value in
     let ts = indices c.args.domain.now in
     let strip = c.strip_at-strip.result in
-    let tells = strips c.in-Some.index strip c.strip_at-strip.ensures in
+    let tells = strips c.of-row.result.0 strip c.strip_at-strip.ensures in
     let before_fits : FitsSigned w64 c.args.before = c.ranges.before in
     let together_fits : FitsSigned w64 c.put_together.result = search rules in
     let together = simp to_z-of_z at c.put_together.ensures.folds in
-    let row = λ (k : _) (below : _). c.in_row-size.ensures.row c.in-Some.index (sym c.in-Some.ensures) k below ∙ ap (λ t. Some (behind k t)) (sym tells.0) in (
-      ap (λ n. folded op (in_turns meaning) (drop (c.args.place + c.in_row-size.result) ts) (value n)) (to_z-of_z w64 c.put_together.result together_fits)
-          ∙ together meaning ts c.args.place c.in_row-size.ensures.strip tells.1 row,
-      c.put_together.ensures.operands meaning ts c.args.place c.in_row-size.ensures.strip tells.1 row,
+    let row = λ (k : _) (below : _). c.of-row.ensures.there k (omega (arith, below, c.min-size.ensures)) ∙ ap (λ t. Some (behind k t)) (sym tells.0) in
+    let few : c.min-size.result ≤ strip.size = omega (arith, c.min.ensures, c.min-size.ensures) in (
+      ap (λ n. folded op (in_turns meaning) (drop (c.args.place + c.min-size.result) ts) (value n)) (to_z-of_z w64 c.put_together.result together_fits)
+          ∙ together meaning ts c.args.place few tells.1 row,
+      c.put_together.ensures.operands meaning ts c.args.place few tells.1 row,
     )

@@ -11,11 +11,11 @@ use Rattle.dpl_loop.proofs.strips.put_together.Given as goal
 abbrev pub invariant-loop-k : goal.invariant-loop-k
 invariant-loop-k g l = record {
   folds : (meaning : Index → Result Value Fault) (ts : List Index) (place : ℕ) → l.size ≤ l.strip.size → HoldsStrip g.O.Operator.value meaning l.strip
-      → ((k : ℕ) → k < l.size → slice_get ts (place + k) ≡ Some (behind k l.strip.first))
+      → ((k : ℕ) → k < l.size → slice_get ts (place + k) ≡ Some (behind k l.strip.row))
       → let op = g.O.Operator.op l.operator in
       folded op (in_turns meaning) (drop (place + l.k) ts) (g.O.Operator.value l.so_far) ≡ folded op (in_turns meaning) (drop place ts) (g.O.Operator.value l.fn.before);
   operands : (meaning : Index → Result Value Fault) (ts : List Index) (place : ℕ) → l.size ≤ l.strip.size → HoldsStrip g.O.Operator.value meaning l.strip
-      → ((k : ℕ) → k < l.size → slice_get ts (place + k) ≡ Some (behind k l.strip.first))
+      → ((k : ℕ) → k < l.size → slice_get ts (place + k) ≡ Some (behind k l.strip.row))
       → let op = g.O.Operator.op l.operator in
       AreOperands op (in_turns meaning) (drop (place + l.k) ts) → AreOperands op (in_turns meaning) (drop place ts);
 }

@@ -10,12 +10,12 @@ pub returns-clause-within : goal.returns-clause-within
 returns-clause-within g c =
     let ts = g.P.Places.indices c.args.over.now in
     run-within ts c.args.place c.make_row.result
-    (λ k below. (behind k c.args.index, c.row_left-left.ensures c.args.index c.requires k (omega (arith, below, c.make_row.ensures.most))))
+    (λ k below. (behind k c.row-row.result.0, c.row-row.ensures.there k (omega (arith, below, c.make_row.ensures.most))))
     (slice_get_within ts c.args.place c.args.index c.requires)
 
 pub returns-clause-goes : goal.returns-clause-goes
 returns-clause-goes g c done =
     let ts = g.P.Places.indices c.args.over.now in
     let turn = g.T.Turns.turn c.args.turns.now c.args.frame.now.limits in
-    order-row turn ts c.args.place c.args.index c.make_row.result c.args.frame.now.memory c.make_row.new.frame.memory done c.make_row.ensures.done
-    (λ k below. c.row_left-left.ensures c.args.index c.requires k (omega (arith, below, c.make_row.ensures.most)))
+    order-row turn ts c.args.place c.row-row.result.0 c.make_row.result c.args.frame.now.memory c.make_row.new.frame.memory done c.make_row.ensures.done
+    (λ k below. c.row-row.ensures.there k (omega (arith, below, c.make_row.ensures.most)))

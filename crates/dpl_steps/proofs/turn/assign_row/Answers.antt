@@ -14,16 +14,16 @@ use Rattle.dpl_elements.proofs.RowTurns.{none-done, row-done, row-made}
 use Rattle.dpl_steps.proofs.turn.assign_row.Goals as goal
 
 pub returns-then-not-has_room-clause-done : goal.returns-then-not-has_room-clause-done
-returns-then-not-has_room-clause-done g c = none-done _ c.args.first c.args.frame.now.memory
+returns-then-not-has_room-clause-done g c = none-done _ c.args.row c.args.frame.now.memory
 
 pub returns-in_default-clause-done : goal.returns-in_default-clause-done
-returns-in_default-clause-done g c = none-done _ c.args.first c.args.frame.now.memory
+returns-in_default-clause-done g c = none-done _ c.args.row c.args.frame.now.memory
 
 pub returns-then-made-gt0-clause-done : goal.returns-then-made-gt0-clause-done
 returns-then-made-gt0-clause-done g c =
     let f = c.args.frame.now in
     let names = c.args.names.now in
-    let first = c.args.first in
+    let first = c.args.row in
     let made = c.put_row-made.result in
     let last : ℕ = made - 1 in
     let put = c.put_row-made.ensures.put in
@@ -36,17 +36,17 @@ returns-then-made-gt0-clause-done g c =
     ∙ bound_at-over names (behind last first) f.memory put.0 in
     subst (λ (m : Memory). AreDone turn first made f.memory m) (sym memory)
     (row-made f.limits names c.args.name.now c.args.index.now c.args.op c.args.sign.now c.args.e.now first c.in-Some.at c.turn_strip-strip.result made f.memory put.0 put.2
-    c.turn_strip-strip.ensures.first c.put_row-made.ensures.strip c.put_row-made.ensures.cap c.turn_strip-strip.ensures.values c.in-Some.ensures last some)
+    c.turn_strip-strip.ensures.row c.put_row-made.ensures.strip c.put_row-made.ensures.cap c.turn_strip-strip.ensures.values c.in-Some.ensures last some)
 
 pub returns-else-made-gt0-clause-done : goal.returns-else-made-gt0-clause-done
 returns-else-made-gt0-clause-done g c =
     let f = c.args.frame.now in
     let names = c.args.names.now in
-    let first = c.args.first in
+    let first = c.args.row in
     let made = c.put_row-made.result in
     let put = c.put_row-made.ensures.put in
     let none : made ≡ 0 = omega (arith, c.if-made-gt0.false) in
     let turn = index_turn f.limits names (Then (element_set (array_leaf IntKind c.args.name.now) c.args.index.now c.args.op c.args.sign.now (int_view c.args.e.now)) NoStmts) in
     subst (λ (m : Memory). AreDone turn first made f.memory m) (sym (ap (λ (f : Framed). f.memory) put.1))
     (row-done f.limits names c.args.name.now c.args.index.now c.args.op c.args.sign.now c.args.e.now first c.in-Some.at c.turn_strip-strip.result made f.memory put.0 put.2
-    c.turn_strip-strip.ensures.first c.put_row-made.ensures.strip c.put_row-made.ensures.cap c.turn_strip-strip.ensures.values c.in-Some.ensures none)
+    c.turn_strip-strip.ensures.row c.put_row-made.ensures.strip c.put_row-made.ensures.cap c.turn_strip-strip.ensures.values c.in-Some.ensures none)

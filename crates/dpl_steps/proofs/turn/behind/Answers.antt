@@ -5,5 +5,5 @@ use Rattle.dpl_steps.proofs.turn.behind.Goals as goal
 
 pub returns-in_default : goal.returns-in_default
 returns-in_default c =
-    let three : length c.args.first ≡ 3 = omega (arith, c.rank.ensures.rank, c.rank.ensures.limits, c.in_default) in
+    let three : length c.args.row.first ≡ 3 = omega (arith, c.rank.ensures.rank, c.rank.ensures.limits, c.in_default) in
     search (rules, three)

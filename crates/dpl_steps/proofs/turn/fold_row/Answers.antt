@@ -18,16 +18,16 @@ use Rattle.dpl_steps.proofs.FoldedTurns.{row-folded}
 use Rattle.dpl_steps.proofs.turn.fold_row.Goals as goal
 
 pub returns-then-not-has_room-clause-done : goal.returns-then-not-has_room-clause-done
-returns-then-not-has_room-clause-done g c = none-done _ c.args.first c.args.frame.now.memory
+returns-then-not-has_room-clause-done g c = none-done _ c.args.row c.args.frame.now.memory
 
 pub returns-in_default-clause-done : goal.returns-in_default-clause-done
-returns-in_default-clause-done g c = none-done _ c.args.first c.args.frame.now.memory
+returns-in_default-clause-done g c = none-done _ c.args.row c.args.frame.now.memory
 
 pub returns-then-made-gt0-clause-done : goal.returns-then-made-gt0-clause-done
 returns-then-made-gt0-clause-done g c =
     let f = c.args.frame.now in
     let names = c.args.names.now in
-    let first = c.args.first in
+    let first = c.args.row in
     let slot = c.args.slot in
     let fold = c.in-Some.fold in
     let strip = c.turn_strip-strip.result in
@@ -50,11 +50,11 @@ returns-then-made-gt0-clause-done g c =
     let turn = index_turn f.limits names (Then (int_changed c.args.deed.now slot (One (int_view c.args.e.now))) NoStmts) in
     subst (λ (m : Memory). AreDone turn first made f.memory m) (sym memory)
     (row-folded f.limits names c.args.deed.now slot c.args.e.now fold first strip made f.memory (c.is_variable.ensures c.if-is_variable.false) there folds
-    c.turn_strip-strip.ensures.first few cap c.turn_strip-strip.ensures.values last some)
+    c.turn_strip-strip.ensures.row few cap c.turn_strip-strip.ensures.values last some)
 
 pub returns-else-made-gt0-clause-done : goal.returns-else-made-gt0-clause-done
 returns-else-made-gt0-clause-done g c =
     let f = c.args.frame.now in
     let none : c.min-made.result ≡ 0 = omega (arith, c.if-made-gt0.false) in
     let turn = index_turn f.limits c.args.names.now (Then (int_changed c.args.deed.now c.args.slot (One (int_view c.args.e.now))) NoStmts) in
-    subst (λ k. AreDone turn c.args.first k f.memory f.memory) (sym none) (none-done turn c.args.first f.memory)
+    subst (λ k. AreDone turn c.args.row k f.memory f.memory) (sym none) (none-done turn c.args.row f.memory)

@@ -5,10 +5,10 @@ use Rattle.dpl_elements.proofs.RowTurns.{none-done}
 use Rattle.dpl_steps.proofs.turn.make_row.Goals as goal
 
 pub returns-in_default-clause-done : goal.returns-in_default-clause-done
-returns-in_default-clause-done g c = none-done _ c.args.first c.args.frame.now.memory
+returns-in_default-clause-done g c = none-done _ c.args.row c.args.frame.now.memory
 
 pub returns-in_default-2-clause-done : goal.returns-in_default-2-clause-done
-returns-in_default-2-clause-done g c = none-done _ c.args.first c.args.frame.now.memory
+returns-in_default-2-clause-done g c = none-done _ c.args.row c.args.frame.now.memory
 
 pub returns-in_default-step : goal.returns-in_default-step
-returns-in_default-step g c = record { most = omega arith; done = none-done _ c.args.first c.args.frame.now.memory; limits = refl }
+returns-in_default-step g c = record { most = omega arith; done = none-done _ c.args.row c.args.frame.now.memory; limits = refl }

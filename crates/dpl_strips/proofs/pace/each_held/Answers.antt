@@ -18,8 +18,8 @@ returns-in-1-eq0 g c =
     let z_fits : FitsSigned w64 at.2 = search rules in
     let n_is = to_z-of_z w64 c.number.result n_fits in
     let z_is = to_z-of_z w64 at.2 z_fits in
-    let before = GoesIn-steady ws c.args.slot (word_of c.number.result) (search rules) (n_is ∙ c.number.ensures) in
-    each_put-one c.after.result c.args.slot c.args.variable ws c.args.first at.0 at.1 (word_of at.2) (c.numbers-outer.ensures.coordinates ∙ ap (last_of (length c.args.first) at.0 at.1) (sym z_is)) c.args.others.now (search rules) (search rules)
+    let before = GoesIn-steady c.args.row.step ws c.args.slot (word_of c.number.result) (search rules) (n_is ∙ c.number.ensures) in
+    each_put-one c.after.result c.args.slot c.args.variable ws c.args.row at.0 at.1 (word_of at.2) (c.numbers-outer.ensures.coordinates ∙ ap (last_of (length c.args.row.first) at.0 at.1) (sym z_is)) c.args.others.now (search rules) (search rules)
     (c.after.ensures (λ k. ws) (λ k. refl) before)
 
 pub returns-in-2-eq1 : goal.returns-in-2-eq1
@@ -32,10 +32,10 @@ returns-in-2-eq1 g c =
     let n_is = to_z-of_z w64 c.number.result n_fits in
     let y_is = to_z-of_z w64 at.1 y_fits in
     let z_is = to_z-of_z w64 at.2 z_fits in
-    let before = GoesIn-steady ws c.args.slot (word_of c.number.result) (search rules) (n_is ∙ c.number.ensures) in
+    let before = GoesIn-steady c.args.row.step ws c.args.slot (word_of c.number.result) (search rules) (n_is ∙ c.number.ensures) in
     let first = c.after-before.ensures (λ k. ws) (λ k. refl) before in
-    each_put-two c.after-in-2-eq1.result c.args.slot c.args.variable ws c.args.first at.0 (word_of at.1) (word_of at.2)
-    (c.numbers-outer.ensures.coordinates ∙ ap (λ y. last_of (length c.args.first) at.0 y at.2) (sym y_is) ∙ ap (last_of (length c.args.first) at.0 (word_of at.1)) (sym z_is)) c.args.others.now _ (search rules) (search rules) (search rules)
+    each_put-two c.after-in-2-eq1.result c.args.slot c.args.variable ws c.args.row at.0 (word_of at.1) (word_of at.2)
+    (c.numbers-outer.ensures.coordinates ∙ ap (λ y. last_of (length c.args.row.first) at.0 y at.2) (sym y_is) ∙ ap (last_of (length c.args.row.first) at.0 (word_of at.1)) (sym z_is)) c.args.others.now _ (search rules) (search rules) (search rules)
     (c.after-in-2-eq1.ensures (λ k. set ws c.args.variable (word_of at.1)) (λ k. length-set ws c.args.variable (word_of at.1)) first)
 
 pub returns-in-3-eq2 : goal.returns-in-3-eq2
@@ -50,13 +50,13 @@ returns-in-3-eq2 g c =
     let x_is = to_z-of_z w64 at.0 x_fits in
     let y_is = to_z-of_z w64 at.1 y_fits in
     let z_is = to_z-of_z w64 at.2 z_fits in
-    let before = GoesIn-steady ws c.args.slot (word_of c.number.result) (search rules) (n_is ∙ c.number.ensures) in
+    let before = GoesIn-steady c.args.row.step ws c.args.slot (word_of c.number.result) (search rules) (n_is ∙ c.number.ensures) in
     let first = c.after-before-in-3-eq2.ensures (λ k. ws) (λ k. refl) before in
     let one = λ (k : ℕ). set ws c.args.variable (word_of at.0) in
     let one_long = λ (k : ℕ). length-set ws c.args.variable (word_of at.0) in
     let second = c.after-before-in-3-eq2-2.ensures one one_long first in
     let two = λ (k : ℕ). set (one k) (get_or c.args.others.now 0 0) (word_of at.1) in
-    each_put-three c.after-in-3-eq2.result c.args.slot c.args.variable ws c.args.first (word_of at.0) (word_of at.1) (word_of at.2)
-    (c.numbers-outer.ensures.coordinates ∙ ap (λ x. last_of (length c.args.first) x at.1 at.2) (sym x_is) ∙ ap (λ y. last_of (length c.args.first) (word_of at.0) y at.2) (sym y_is)
-    ∙ ap (last_of (length c.args.first) (word_of at.0) (word_of at.1)) (sym z_is)) c.args.others.now (get_or c.args.others.now 0 0) _ (search rules) (search rules) (search rules) (search rules)
+    each_put-three c.after-in-3-eq2.result c.args.slot c.args.variable ws c.args.row (word_of at.0) (word_of at.1) (word_of at.2)
+    (c.numbers-outer.ensures.coordinates ∙ ap (λ x. last_of (length c.args.row.first) x at.1 at.2) (sym x_is) ∙ ap (λ y. last_of (length c.args.row.first) (word_of at.0) y at.2) (sym y_is)
+    ∙ ap (last_of (length c.args.row.first) (word_of at.0) (word_of at.1)) (sym z_is)) c.args.others.now (get_or c.args.others.now 0 0) _ (search rules) (search rules) (search rules) (search rules)
     (c.after-in-3-eq2.ensures two (λ k. length-set (one k) (get_or c.args.others.now 0 0) (word_of at.1) ∙ one_long k) second)

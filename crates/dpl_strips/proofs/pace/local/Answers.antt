@@ -12,7 +12,7 @@ use Rattle.dpl_strips.proofs.pace.local.Goals as goal
 pub returns-in-Each : goal.returns-in-Each
 returns-in-Each g c =
     let s = c.args.frame.now.memory in
-    let first = c.args.first in
+    let row = c.args.row in
     IfSome_then c.each_held-in-Each.result c.each_held-in-Each.ensures
-    (λ (p : Pace). GoesIn-same (λ k. each_put (c.in-Each.variable ∷ c.in-Each.others.now) (behind k first) s.words.numbers) (turn_numbers c.args.names.now first s) c.args.slot p
-    (λ (k : ℕ). ap (λ (names : Names). turn_numbers names first s k) c.in-Each.is ∙ declare_each-each c.in-Each.variable c.in-Each.others.now (behind k first) s))
+    (λ (p : Pace). GoesIn-same row.step (λ k. each_put (c.in-Each.variable ∷ c.in-Each.others.now) (behind k row) s.words.numbers) (turn_numbers c.args.names.now row s) c.args.slot p
+    (λ (k : ℕ). ap (λ (names : Names). turn_numbers names row s k) c.in-Each.is ∙ declare_each-each c.in-Each.variable c.in-Each.others.now (behind k row) s))

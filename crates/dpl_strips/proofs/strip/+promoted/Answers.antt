@@ -20,7 +20,7 @@ differences-returns-in-None-clause-values g t c =
     let b = promoted_int EachTurn c.args.b.now in
     let at = λ (e : ExprTree Variable) (i : Index) (u : Memory). value_of frame.limits in_memory e (Some i) u in
     both-hold (λ i u. IsSameAt i frame.memory u) (at a) (at b) (at (two a nowhere Subtract b)) (λ x y. wrap (x -ℤ y)) (λ i u x y left right. difference-at frame.limits a b (Some i) u x y left right)
-    c.promoted_strip-left.result c.promoted_strip.result c.both.result (c.promoted_strip.ensures.first ∙ sym c.promoted_strip-left.ensures.first) c.both.ensures.first c.both.ensures.left c.both.ensures.right
+    c.promoted_strip-left.result c.promoted_strip.result c.both.result (c.promoted_strip.ensures.row ∙ sym c.promoted_strip-left.ensures.row) c.both.ensures.row c.both.ensures.left c.both.ensures.right
     c.promoted_strip-left.ensures.values c.promoted_strip.ensures.values c.both.ensures.words
 
 pub products-returns-in-None-clause-values : goal.products-returns-in-None-clause-values
@@ -30,7 +30,7 @@ products-returns-in-None-clause-values g t c =
     let b = promoted_int EachTurn c.args.b.now in
     let at = λ (e : ExprTree Variable) (i : Index) (u : Memory). value_of frame.limits in_memory e (Some i) u in
     both-hold (λ i u. IsSameAt i frame.memory u) (at a) (at b) (at (two a nowhere Multiply b)) (λ x y. wrap (x *ℤ y)) (λ i u x y left right. product-at frame.limits a b (Some i) u x y left right)
-    c.promoted_strip-left.result c.promoted_strip.result c.both.result (c.promoted_strip.ensures.first ∙ sym c.promoted_strip-left.ensures.first) c.both.ensures.first c.both.ensures.left c.both.ensures.right
+    c.promoted_strip-left.result c.promoted_strip.result c.both.result (c.promoted_strip.ensures.row ∙ sym c.promoted_strip-left.ensures.row) c.both.ensures.row c.both.ensures.left c.both.ensures.right
     c.promoted_strip-left.ensures.values c.promoted_strip.ensures.values c.both.ensures.words
 
 pub sums-returns-in-None-clause-values : goal.sums-returns-in-None-clause-values
@@ -40,5 +40,5 @@ sums-returns-in-None-clause-values g t c =
     let b = promoted_int EachTurn c.args.b.now in
     let at = λ (e : ExprTree Variable) (i : Index) (u : Memory). value_of frame.limits in_memory e (Some i) u in
     both-hold (λ i u. IsSameAt i frame.memory u) (at a) (at b) (at (two a nowhere Add b)) (λ x y. wrap (x +ℤ y)) (λ i u x y left right. sum-at frame.limits a b (Some i) u x y left right)
-    c.promoted_strip-left.result c.promoted_strip.result c.both.result (c.promoted_strip.ensures.first ∙ sym c.promoted_strip-left.ensures.first) c.both.ensures.first c.both.ensures.left c.both.ensures.right
+    c.promoted_strip-left.result c.promoted_strip.result c.both.result (c.promoted_strip.ensures.row ∙ sym c.promoted_strip-left.ensures.row) c.both.ensures.row c.both.ensures.left c.both.ensures.right
     c.promoted_strip-left.ensures.values c.promoted_strip.ensures.values c.both.ensures.words

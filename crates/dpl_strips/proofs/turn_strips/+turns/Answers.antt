@@ -19,7 +19,7 @@ differences-returns-in-None-clause-values g t c =
     let b = int_view c.args.b.now in
     let at = λ (e : ExprTree Variable) (i : Index) (u : Memory). value_of frame.limits in_memory e None u in
     both-hold (λ i u. IsInTurn c.args.names.now c.args.target i frame.memory u) (at a) (at b) (at (two a nowhere Subtract b)) (λ x y. wrap (x -ℤ y)) (λ i u x y left right. difference-at frame.limits a b None u x y left right)
-    c.turn_strip-left.result c.turn_strip.result c.both.result (c.turn_strip.ensures.first ∙ sym c.turn_strip-left.ensures.first) c.both.ensures.first c.both.ensures.left c.both.ensures.right
+    c.turn_strip-left.result c.turn_strip.result c.both.result (c.turn_strip.ensures.row ∙ sym c.turn_strip-left.ensures.row) c.both.ensures.row c.both.ensures.left c.both.ensures.right
     c.turn_strip-left.ensures.values c.turn_strip.ensures.values c.both.ensures.words
 
 pub products-returns-in-None-clause-values : goal.products-returns-in-None-clause-values
@@ -29,7 +29,7 @@ products-returns-in-None-clause-values g t c =
     let b = int_view c.args.b.now in
     let at = λ (e : ExprTree Variable) (i : Index) (u : Memory). value_of frame.limits in_memory e None u in
     both-hold (λ i u. IsInTurn c.args.names.now c.args.target i frame.memory u) (at a) (at b) (at (two a nowhere Multiply b)) (λ x y. wrap (x *ℤ y)) (λ i u x y left right. product-at frame.limits a b None u x y left right)
-    c.turn_strip-left.result c.turn_strip.result c.both.result (c.turn_strip.ensures.first ∙ sym c.turn_strip-left.ensures.first) c.both.ensures.first c.both.ensures.left c.both.ensures.right
+    c.turn_strip-left.result c.turn_strip.result c.both.result (c.turn_strip.ensures.row ∙ sym c.turn_strip-left.ensures.row) c.both.ensures.row c.both.ensures.left c.both.ensures.right
     c.turn_strip-left.ensures.values c.turn_strip.ensures.values c.both.ensures.words
 
 pub sums-returns-in-None-clause-values : goal.sums-returns-in-None-clause-values
@@ -39,5 +39,5 @@ sums-returns-in-None-clause-values g t c =
     let b = int_view c.args.b.now in
     let at = λ (e : ExprTree Variable) (i : Index) (u : Memory). value_of frame.limits in_memory e None u in
     both-hold (λ i u. IsInTurn c.args.names.now c.args.target i frame.memory u) (at a) (at b) (at (two a nowhere Add b)) (λ x y. wrap (x +ℤ y)) (λ i u x y left right. sum-at frame.limits a b None u x y left right)
-    c.turn_strip-left.result c.turn_strip.result c.both.result (c.turn_strip.ensures.first ∙ sym c.turn_strip-left.ensures.first) c.both.ensures.first c.both.ensures.left c.both.ensures.right
+    c.turn_strip-left.result c.turn_strip.result c.both.result (c.turn_strip.ensures.row ∙ sym c.turn_strip-left.ensures.row) c.both.ensures.row c.both.ensures.left c.both.ensures.right
     c.turn_strip-left.ensures.values c.turn_strip.ensures.values c.both.ensures.words

@@ -7,4 +7,4 @@ use Rattle.dpl_array.proofs.array.DArray.run.Goals as goal
 
 pub returns : goal.returns
 returns g c k v some =
-    ap (λ a. value_at (behind k c.args.index) a.elements) (sym c.self.view_is) ∙ union-at c.self.inside.pieces c.self.invariant.1 (behind k c.args.index) ∙ c.run.ensures k v some
+    ap (λ a. value_at (behind k c.args.row) a.elements) (sym c.self.view_is) ∙ union-at c.self.inside.pieces c.self.invariant.1 (behind k c.args.row) ∙ c.run.ensures k v some

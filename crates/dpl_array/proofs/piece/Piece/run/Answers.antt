@@ -3,17 +3,18 @@
 use Rattle.std.proofs.Common.{◌≡◌, ◌≤◌, ◌+◌, ◌%◌, ◌^◌, arith, ap, sym, subst, ◌∙◌, Some, slice_get, slice_range}
 use Rattle.dpl_array.specs.Elements.{behind, value_at}
 use Rattle.dpl_array.specs.Rows.{row_of}
-use Rattle.dpl_array.proofs.RunLemmas.{run-values}
+use Rattle.dpl_array.proofs.RunLemmas.{RunsFrom, run-values}
 use Rattle.dpl_array.proofs.piece.Piece.run.Goals as goal
 
 pub returns-in-Some : goal.returns-in-Some
 returns-in-Some g c k v some =
     let p = c.self.inside in
-    let place = c.run-place.result.0 in
-    let size = c.run-place.result.1 in
+    let place = c.run_in-place.result.0 in
+    let size = c.run_in-place.result.1 in
+    let runs : RunsFrom (row_of p.parts.items) place size c.args.row = subst (λ ds. RunsFrom (row_of ds) place size c.args.row) c.deref.ensures.value c.run_in-place.ensures in
     let end = (place + size) % 2 ^ 64 in
     let most : end ≤ place + size = omega arith in
-    let is : c.in-Some.values.now ≡ slice_range p.values.items place end = c.in-Some.ensures.lookup.0.2 ∙ ap (λ vs. slice_range vs place end) c.deref.ensures.value in
-    ap (λ q. value_at (behind k c.args.index) q.elements) (sym c.self.view_is)
-    ∙ run-values p.domain p.map p.locale p.parts.items p.starts.items p.values.items c.self.invariant.0 place size c.args.index (c.run-place.ensures (row_of p.parts.items) c.self.invariant.1) end most k v
+    let is : c.in-Some.values.now ≡ slice_range p.values.items place end = c.in-Some.ensures.lookup.0.2 ∙ ap (λ vs. slice_range vs place end) c.deref-2.ensures.value in
+    ap (λ q. value_at (behind k c.args.row) q.elements) (sym c.self.view_is)
+    ∙ run-values p.domain p.map p.locale p.parts.items p.starts.items p.values.items c.self.invariant.0 place size c.args.row runs end most k v
     (subst (λ vs. slice_get vs k ≡ Some v) is some)

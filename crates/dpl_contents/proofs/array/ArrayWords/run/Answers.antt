@@ -7,4 +7,4 @@ use Rattle.dpl_contents.proofs.array.ArrayWords.run.Goals as goal
 pub returns : goal.returns
 returns c k word there =
     let inside = c.self.inside in
-    sym (held_at-is inside.domain inside.array c.self.invariant (behind k c.args.index) c.args.self.now c.self.view_is) ∙ c.run.ensures k word there
+    sym (held_at-is inside.domain inside.array c.self.invariant (behind k c.args.row) c.args.self.now c.self.view_is) ∙ c.run.ensures k word there

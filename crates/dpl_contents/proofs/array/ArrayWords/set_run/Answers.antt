@@ -10,17 +10,17 @@ use Rattle.dpl_contents.proofs.array.ArrayWords.set_run.Goals as goal
 pub invariant_of-self : goal.invariant_of-self
 invariant_of-self c =
     let inside = c.self.inside in
-    subst (IsArrayOver inside.domain) (sym c.set_run.ensures.changes) (put-over inside.domain c.args.index c.args.words.now c.set_run.result inside.array c.self.invariant)
+    subst (IsArrayOver inside.domain) (sym c.set_run.ensures.changes) (put-over inside.domain c.args.row c.args.words.now c.set_run.result inside.array c.self.invariant)
 
 pub returns-clause-there : goal.returns-clause-there
 returns-clause-there c k below =
     let inside = c.self.inside in
-    ap is_some (sym (held_at-is inside.domain inside.array c.self.invariant (behind k c.args.index) c.args.self.now c.self.view_is))
+    ap is_some (sym (held_at-is inside.domain inside.array c.self.invariant (behind k c.args.row) c.args.self.now c.self.view_is))
     ∙ c.set_run.ensures.there k below
 
 pub returns-clause-changes : goal.returns-clause-changes
 returns-clause-changes c =
     let inside = c.self.inside in
     ap (seen inside.domain) c.set_run.ensures.changes
-    ∙ put-seen inside.domain c.args.index c.args.words.now c.set_run.result inside.array c.self.invariant
-    ∙ ap (put_in_row held_with c.args.index c.args.words.now c.set_run.result) c.self.view_is
+    ∙ put-seen inside.domain c.args.row c.args.words.now c.set_run.result inside.array c.self.invariant
+    ∙ ap (put_in_row held_with c.args.row c.args.words.now c.set_run.result) c.self.view_is

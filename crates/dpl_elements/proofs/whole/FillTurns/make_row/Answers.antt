@@ -18,7 +18,7 @@ pub returns-clause-done : goal.returns-clause-done
 returns-clause-done g c =
     let turns = c.args.self.now in
     let f = c.args.frame.now in
-    let first = c.args.first in
+    let first = c.args.row in
     let put = c.put_row.ensures.put in
     let fits : FitsSigned w64 turns.value = search rules in
     let sign = signed turns.op turns.sign.now in

@@ -9,11 +9,11 @@ pub returns-then-slot-len-clause-there : goal.returns-then-slot-len-clause-there
 returns-then-slot-len-clause-there c k below =
     let p = c.self.inside in
     let within : c.args.slot < length p.own.items = search rules in
-    ap (λ a. is_some (held_at (behind k c.args.index) a)) (own-seen p.own.items p.lent.now c.self.invariant c.args.slot c.args.self.now c.self.view_is c.index_mut.result.now within c.index_mut.ensures.value)
+    ap (λ a. is_some (held_at (behind k c.args.row) a)) (own-seen p.own.items p.lent.now c.self.invariant c.args.slot c.args.self.now c.self.view_is c.index_mut.result.now within c.index_mut.ensures.value)
     ∙ c.put_run.ensures.there p.lent.now c.args.slot k below
 
 pub returns-then-slot-len-clause-changes : goal.returns-then-slot-len-clause-changes
 returns-then-slot-len-clause-changes c =
     let p = c.self.inside in
     let within : c.args.slot < length p.own.items = search rules in
-    own-put p.own.items p.lent.now c.self.invariant c.args.slot c.args.self.now c.self.view_is c.index_mut.result.now within c.index_mut.ensures.value (put_in_row held_with c.args.index c.args.words.now c.put_run.result) c.put_run.new.self (c.put_run.ensures.changes p.lent.now c.args.slot)
+    own-put p.own.items p.lent.now c.self.invariant c.args.slot c.args.self.now c.self.view_is c.index_mut.result.now within c.index_mut.ensures.value (put_in_row held_with c.args.row c.args.words.now c.put_run.result) c.put_run.new.self (c.put_run.ensures.changes p.lent.now c.args.slot)
