@@ -12,8 +12,7 @@ use Rattle.dpl_sets.specs.Ranges.{RangeValue, members_of}
 use Rattle.dpl_sets.specs.Indices.{indices}
 use Rattle.dpl_domain.specs.Ranks.{last_of, point, IsPadded}
 use Rattle.dpl_domain.proofs.TupleLemmas.{slice_get-indices, slice_get-indices_at, indices-empty, tuple_at-parts, tuple_at-some}
-use Rattle.dpl_array.specs.Elements.{along, behind}
-use Rattle.dpl_array.specs.declared.row.Row.{Row}
+use Rattle.dpl_array.specs.Elements.{Row, along, behind}
 use Rattle.dpl_array.proofs.Behind.{last-along}
 
 -- so many strides further on

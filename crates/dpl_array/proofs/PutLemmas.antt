@@ -6,12 +6,11 @@ use Rattle.std.proofs.lemmas.Option.{same_Some, slice_get_within}
 use Rattle.dpl_sets.specs.Ranges.{RangeValue}
 use Rattle.dpl_map.specs.Maps.{AxisValue}
 use Rattle.dpl_map.specs.Parts.{part}
-use Rattle.dpl_array.specs.Elements.{behind, put_in_row, put_some, tabulated, value_at}
+use Rattle.dpl_array.specs.Elements.{Row, behind, put_in_row, put_some, tabulated, value_at}
 use Rattle.dpl_array.specs.Arrays.{PieceValue, PiecesValue, ArePieces, IsWhole, array_with, piece_with, union, written_at}
 use Rattle.dpl_array.specs.PieceFields.{kept_at, IsKept}
 use Rattle.dpl_array.specs.PiecesFields.{slot_of, AreHeld, IsPieceOf}
 use Rattle.dpl_array.specs.Rows.{row_of, set_side_by_side, set_some}
-use Rattle.dpl_array.specs.declared.row.Row.{Row}
 use Rattle.dpl_array.proofs.ElementLemmas.{over-some, over-stands, over-with_value}
 use Rattle.dpl_array.proofs.HeldLemmas.{held-set, held-unwritten, held-written, in-place}
 use Rattle.dpl_array.proofs.PieceLemmas.{piece-set, places-alone}

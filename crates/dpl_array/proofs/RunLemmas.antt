@@ -5,10 +5,9 @@ use Rattle.std.proofs.lemmas.Option.{none-some}
 use Rattle.dpl_sets.specs.Ranges.{RangeValue}
 use Rattle.dpl_map.specs.Maps.{AxisValue}
 use Rattle.dpl_map.specs.Parts.{part}
-use Rattle.dpl_array.specs.Elements.{behind, tabulated, IsRunOf}
+use Rattle.dpl_array.specs.Elements.{Row, behind, tabulated, IsRunOf}
 use Rattle.dpl_array.specs.PieceFields.{kept_at, IsKept}
 use Rattle.dpl_array.specs.Rows.{row_of}
-use Rattle.dpl_array.specs.declared.row.Row.{Row}
 use Rattle.dpl_array.proofs.WindowLemmas.{value-found}
 
 module _ {T : Type 0} where

@@ -3,7 +3,6 @@
 use Rattle.std.specs.Prelude.{◌≡◌, ℕ, zero, suc, ℤ, pos, ◌+ℤ◌, ◌*ℤ◌, List, [], ◌∷◌, Bool, true, false, ◌&&◌, ◌==◌, Option, Some, None, map, filter, slice_get, if◌then◌else◌}
 use Rattle.std.specs.Ordering.{int_eq}
 use Rattle.dpl_map.specs.Maps.{AxisValue, owner}
-use Rattle.dpl_array.specs.declared.row.Row.{Row}
 
 -- A finite map from indices to values is the list of its elements: each is an index with the value there.
 abbrev pub Elements : Type 0 → Type 0
@@ -21,6 +20,11 @@ abbrev pub along : ℤ → List ℤ → List ℤ
 along d [] = []
 along d (i ∷ []) = (i +ℤ d) ∷ []
 along d (i ∷ j ∷ is) = i ∷ along d (j ∷ is)
+
+-- indices one behind another in the last dimension: the first one, and how far each lies from the one before it
+pub record Row : Type 0 where
+  pub first : List ℤ
+  pub step : ℤ
 
 -- the index of a row that stands so many behind its first
 abbrev pub behind : ℕ → Row → List ℤ

@@ -185,7 +185,7 @@ impl<T: Copy> Pieces<T> {
     pub(crate) fn run(&self, row: Row) -> &[T]
         ensures { (k : ℕ) (v : T) → slice_get result.now k ≡ Some v → held_at self.now (behind k row) ≡ Some v }
     {
-        let Some(Some(piece)) = self.held.get(self.seats.guess(row.first)) else {
+        let Some(Some(piece)) = self.held.get(self.seats.guess(row.first())) else {
             return &[];
         };
         piece.run(row)
@@ -248,7 +248,7 @@ impl<T: Copy> Pieces<T> {
         ensures there { (k : ℕ) → k < result → is_some (held_at self.old (behind k row)) ≡ true }
         ensures changes { self.new ≡ put_in_row written_at row values.now result self.old }
     {
-        let seat = self.seats.guess(row.first);
+        let seat = self.seats.guess(row.first());
         if seat >= self.held.len() {
             return 0;
         }

@@ -54,11 +54,11 @@ pub(crate) fn run_in(parts: &[Domain], row: Row) -> (usize, usize)
     let [part] = parts else {
         return (0, 0);
     };
-    let Some(place) = part.place(row.first) else {
+    let Some(place) = part.place(row.first()) else {
         return (0, 0);
     };
-    let (own, left) = Row::of(part, row.first, place);
-    if own.step != row.step {
+    let (own, left) = Row::of(part, row.first(), place);
+    if own.step() != row.step() {
         return (0, 0);
     }
     (place as usize, left as usize)

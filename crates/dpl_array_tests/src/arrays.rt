@@ -117,25 +117,28 @@ fn strangers(rt: HostRuntime) {
     assert_eq!(&rt; piece.locale(), 1);
 }
 
-// The row from an index on whose indices are so far apart.
-fn row(first: Index, step: i64) -> Row {
-    Row { first, step }
+// The row from an index on by a step.
+fn row(rt: &impl Abort, first: Index, step: i64) -> Row {
+    if step == 0 {
+        panic!(rt; "a row has a step")
+    }
+    Row::new(first, step)
 }
 
 // So many values stand side by side at the indices of a row. Each is the one that the array has there.
 fn runs(rt: &impl Abort, array: &DArray<i64>, from: Row, length: usize) {
     let run = array.run(from);
     assert_eq!(rt; run.len(), length);
-    let (plane, line, column) = from.first.numbers();
+    let (plane, line, column) = from.first().numbers();
     let mut at = column;
     for value in run {
-        let there = match from.first.rank() {
+        let there = match from.first().rank() {
             1 => array.get_line(at),
             2 => array.get_plane(line, at),
             _ => array.get_space(plane, line, at),
         };
         assert_eq!(rt; there, Some(*value));
-        at = at.wrapping_add(from.step);
+        at = at.wrapping_add(from.step());
     }
 }
 
@@ -154,9 +157,9 @@ fn runs_of_a_line(rt: HostRuntime) {
         (in_threes, 12, 0),
     ] {
         let array = squares(&rt, rt.alloc(), domain(&rt, "1..40"), map);
-        runs(&rt, &array, row(index(&rt, &[7]), step), length);
-        runs(&rt, &array, row(index(&rt, &[41]), step), 0);
-        runs(&rt, &array, row(index(&rt, &[0]), step), 0);
+        runs(&rt, &array, row(&rt, index(&rt, &[7]), step), length);
+        runs(&rt, &array, row(&rt, index(&rt, &[41]), step), 0);
+        runs(&rt, &array, row(&rt, index(&rt, &[0]), step), 0);
     }
 }
 
@@ -175,7 +178,7 @@ fn runs_by_strides(rt: HostRuntime) {
         ("-40..-1 by 3", around, -37, 6, 7),
     ] {
         let array = squares(&rt, rt.alloc(), domain(&rt, text), map);
-        runs(&rt, &array, row(index(&rt, &[from]), step), length);
+        runs(&rt, &array, row(&rt, index(&rt, &[from]), step), length);
     }
 }
 
@@ -193,7 +196,7 @@ fn runs_of_a_plane(rt: HostRuntime) {
         (4, 1, 0),
         (2, 0, 0),
     ] {
-        runs(&rt, &array, row(index(&rt, &[i, j]), 1), length);
+        runs(&rt, &array, row(&rt, index(&rt, &[i, j]), 1), length);
     }
 }
 
@@ -207,22 +210,22 @@ fn runs_of_a_space(rt: HostRuntime) {
         (cyclic(&rt, &[0, 1, 1], &[1, 3, 1]), 1, 7),
     ] {
         let array = squares(&rt, rt.alloc(), space, map);
-        runs(&rt, &array, row(index(&rt, &[1, 2, 3]), step), length);
-        runs(&rt, &array, row(index(&rt, &[1, 2, 10]), step), 0);
-        runs(&rt, &array, row(index(&rt, &[2, 2, 3]), step), 0);
+        runs(&rt, &array, row(&rt, index(&rt, &[1, 2, 3]), step), length);
+        runs(&rt, &array, row(&rt, index(&rt, &[1, 2, 10]), step), 0);
+        runs(&rt, &array, row(&rt, index(&rt, &[2, 2, 3]), step), 0);
     }
 }
 
 // What an array of squares has at an index when some values were put at the first indices of a row.
 fn expected(at: Index, from: Row, values: &[i64], put: usize) -> Option<i64> {
-    let (_, line, first) = from.first.numbers();
+    let (_, line, first) = from.first().numbers();
     let (_, i, j) = at.numbers();
     let distance = j.wrapping_sub(first);
     let behind = distance
-        .checked_div(from.step)
+        .checked_div(from.step())
         .unwrap_or(-1)
         .cast_unsigned() as usize;
-    if i == line && distance.checked_rem(from.step) == Some(0) && behind < put {
+    if i == line && distance.checked_rem(from.step()) == Some(0) && behind < put {
         values.get(behind).copied()
     } else {
         Some(j.wrapping_mul(j))
@@ -264,7 +267,7 @@ fn rows_put_on_a_line(rt: HostRuntime) {
             rt.alloc(),
             "1..40",
             map,
-            row(index(&rt, &[37]), step),
+            row(&rt, index(&rt, &[37]), step),
             there,
         );
         rows_put(
@@ -272,7 +275,7 @@ fn rows_put_on_a_line(rt: HostRuntime) {
             rt.alloc(),
             "1..40",
             map,
-            row(index(&rt, &[41]), step),
+            row(&rt, index(&rt, &[41]), step),
             0,
         );
         rows_put(
@@ -280,7 +283,7 @@ fn rows_put_on_a_line(rt: HostRuntime) {
             rt.alloc(),
             "1..40",
             map,
-            row(index(&rt, &[0]), step),
+            row(&rt, index(&rt, &[0]), step),
             0,
         );
     }
@@ -289,7 +292,7 @@ fn rows_put_on_a_line(rt: HostRuntime) {
         rt.alloc(),
         "1..40",
         around,
-        row(index(&rt, &[2]), 4),
+        row(&rt, index(&rt, &[2]), 4),
         10,
     );
     rows_put(
@@ -297,7 +300,7 @@ fn rows_put_on_a_line(rt: HostRuntime) {
         rt.alloc(),
         "1..40 by -3",
         Map::whole(),
-        row(index(&rt, &[10]), -3),
+        row(&rt, index(&rt, &[10]), -3),
         4,
     );
 }
@@ -306,13 +309,13 @@ fn rows_put_on_a_line(rt: HostRuntime) {
 #[test]
 fn rows_put_on_a_plane(rt: HostRuntime) {
     let (plane, at) = ("1..3,1..8", index(&rt, &[2, 6]));
-    rows_put(&rt, rt.alloc(), plane, Map::whole(), row(at, 1), 3);
+    rows_put(&rt, rt.alloc(), plane, Map::whole(), row(&rt, at, 1), 3);
     rows_put(
         &rt,
         rt.alloc(),
         plane,
         block(&rt, plane, &[1, 2]),
-        row(at, 1),
+        row(&rt, at, 1),
         3,
     );
     rows_put(
@@ -320,7 +323,7 @@ fn rows_put_on_a_plane(rt: HostRuntime) {
         rt.alloc(),
         plane,
         cyclic(&rt, &[1, 1], &[1, 2]),
-        row(at, 1),
+        row(&rt, at, 1),
         0,
     );
     rows_put(
@@ -328,7 +331,7 @@ fn rows_put_on_a_plane(rt: HostRuntime) {
         rt.alloc(),
         plane,
         cyclic(&rt, &[1, 1], &[1, 2]),
-        row(at, 2),
+        row(&rt, at, 2),
         2,
     );
 }

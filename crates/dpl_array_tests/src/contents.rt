@@ -22,10 +22,7 @@ fn rows_of_words(rt: HostRuntime) {
     let plane = DomainWord::new(&ranges).expect(&rt, "a domain");
     let made = ArrayWords::new(rt.alloc(), plane, Map::whole(), 4);
     let mut array = made.expect(&rt, "memory");
-    let row = Row {
-        first: index(&rt, &[2, 1]),
-        step: 1,
-    };
+    let row = Row::new(index(&rt, &[2, 1]), 1);
     assert_eq!(rt; array.set_run(row, &[7, 8, 9, 10]), 3);
     assert!(rt; array.run(row) == [7, 8, 9].as_slice());
     assert_eq!(rt; array.get_plane(1, 3), Some(4));

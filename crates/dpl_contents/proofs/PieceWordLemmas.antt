@@ -7,8 +7,7 @@ use Rattle.dpl_domain.proofs.DistinctLemmas.{indices-distinct}
 use Rattle.dpl_language.specs.Values.{Index}
 use Rattle.dpl_memory.specs.Memory.{Held, held_at, held_with}
 use Rattle.dpl_map.specs.Parts.{part}
-use Rattle.dpl_array.specs.Elements.{value_at, keys_of, behind, put_in_row, put_some}
-use Rattle.dpl_array.specs.declared.row.Row.{Row}
+use Rattle.dpl_array.specs.Elements.{Row, value_at, keys_of, behind, put_in_row, put_some}
 use Rattle.dpl_array.specs.Arrays.{PieceValue, piece_with}
 use Rattle.dpl_array.specs.Rows.{IsDistinct}
 use Rattle.dpl_array.proofs.ElementLemmas.{over-with_value}

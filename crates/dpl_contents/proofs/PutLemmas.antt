@@ -3,8 +3,7 @@
 use Rattle.std.proofs.Common.{◌≡◌, ℕ, zero, suc, List, ℤ, slice_get, Option, Some, None, refl, ap, ◌∙◌}
 use Rattle.dpl_sets.specs.TextRanges.{TextRange}
 use Rattle.dpl_memory.specs.Memory.{held_with}
-use Rattle.dpl_array.specs.Elements.{behind, put_in_row, put_some}
-use Rattle.dpl_array.specs.declared.row.Row.{Row}
+use Rattle.dpl_array.specs.Elements.{Row, behind, put_in_row, put_some}
 use Rattle.dpl_array.specs.Arrays.{ArrayValue, array_with}
 use Rattle.dpl_contents.specs.Arrays.{IsArrayOver}
 use Rattle.dpl_contents.proofs.Words.{held_with-is, over-with, seen}

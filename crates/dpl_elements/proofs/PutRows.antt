@@ -1,8 +1,7 @@
 -- Ints that go into elements side by side, by an operator that doesn't divide: each is the change of its element.
 use Rattle.std.proofs.Common.{◌≡◌, ◌≢◌, ◌<◌, ◌+◌, ℕ, suc, ℤ, pos, true, false, List, length, set, get_or, slice_get, Option, Some, None, option_map, is_some, refl, ap, ◌∙◌, arith}
 use Rattle.dpl_syntax.specs.declared.place.Place.{Place}
-use Rattle.dpl_array.specs.Elements.{behind}
-use Rattle.dpl_array.specs.declared.row.Row.{Row}
+use Rattle.dpl_array.specs.Elements.{Row, behind}
 use Rattle.dpl_language.specs.Tree.{Assign, IntKind}
 use Rattle.dpl_language.specs.Values.{Value, Int, Index}
 use Rattle.dpl_language.specs.Arithmetic.{assigned, assign_divides, tested_divisor}
@@ -33,7 +32,7 @@ change-there limits x op sign t v u done old w there divides becomes =
 
 module _
     (limits : Limits) (x : ArrayName) (op : Assign) (sign : Place) (at : Row) (strip : Strip) (size : ℕ) (ws : List ℤ) (arrays : List Held)
-    (some : 0 < length at.first) (divides : 0 < size → assign_divides op ≡ false) (moves : 0 < size → at.step ≢ pos 0)
+    (some : 0 < length at.first) (divides : 0 < size → assign_divides op ≡ false) (moves : at.step ≢ pos 0)
     (there : (k : ℕ) → k < size → is_some (held_at (behind k at) (get_or arrays x.slot no_array)) ≡ true)
     (words : (k : ℕ) → k < size → (w : ℤ) × (slice_get ws k ≡ Some w) × ((old : ℤ) → held_at (behind k at) (get_or arrays x.slot no_array) ≡ Some old → assigned op None (Int old) (Int (get_or strip.words k (pos 0))) ≡ Int w)) where
   within : (k : ℕ) → k < size → x.slot < length arrays
@@ -45,10 +44,10 @@ module _
       let word = words k below in
       let old = some-of (held_at (behind k at) (get_or arrays x.slot no_array)) (there k below) in
       let next : suc k ≡ k + 1 = omega arith in
-      let here = ap (λ held. held_at (behind k at) (get_or held x.slot no_array)) same ∙ next-same x.slot at ws arrays (within k below) some (moves (omega (arith, below))) k x.slot ∙ old.1 in
+      let here = ap (λ held. held_at (behind k at) (get_or held x.slot no_array)) same ∙ next-same x.slot at ws arrays (within k below) some moves k x.slot ∙ old.1 in
       change-there limits x op sign (behind k at) (Int (get_or strip.words k (pos 0))) u done old.0 word.0 here (divides (omega (arith, below))) (word.2 old.0 old.1)
       ∙ ap (λ held. Done (record u { arrays = set held x.slot (held_with (behind k at) word.0 (get_or held x.slot no_array)) }) done) same
-      ∙ ap (λ held. Done (record u { arrays = held }) done) (next-put x.slot at ws arrays (within k below) some (moves (omega (arith, below))) k word.0 word.1)
+      ∙ ap (λ held. Done (record u { arrays = held }) done) (next-put x.slot at ws arrays (within k below) some moves k word.0 word.1)
       ∙ ap (λ n. Done (record u { arrays = arrays_put x.slot at ws arrays n }) done) next
 
   pub are-put : ArePut limits x (signed op sign) at strip size arrays (arrays_put x.slot at ws arrays size)
@@ -58,5 +57,5 @@ module _
     ends = refl;
     each = one-put;
     others = λ k slot other. others-put x.slot at ws arrays k slot other;
-    next = λ k slot below. next-same x.slot at ws arrays (within k below) some (moves (omega (arith, below))) k slot;
+    next = λ k slot below. next-same x.slot at ws arrays (within k below) some moves k slot;
   }

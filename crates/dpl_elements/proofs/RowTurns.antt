@@ -2,8 +2,7 @@
 -- In each turn the variables hold its index, and the arrays are as the turns before have left them.
 use Rattle.std.proofs.Common.{◌≡◌, ◌<◌, ◌≤◌, ◌+◌, ℕ, zero, suc, List, pos, get_or, None, Ok, refl, sym, subst, ap, ◌∙◌, arith}
 use Rattle.dpl_syntax.specs.declared.place.Place.{Place}
-use Rattle.dpl_array.specs.Elements.{behind}
-use Rattle.dpl_array.specs.declared.row.Row.{Row}
+use Rattle.dpl_array.specs.Elements.{Row, behind}
 use Rattle.dpl_language.specs.Tree.{Assign, AssignTree, IntKind, Stmts, NoStmts, Then}
 use Rattle.dpl_language.specs.Values.{Int, Index}
 use Rattle.dpl_language.specs.Outcome.{Run, Deeds, Done, then_do}

@@ -1,8 +1,7 @@
 -- Ints that go into elements side by side, and what that leaves of all arrays.
 -- It is what putting them one by one does: the next int finds what those before it have left.
 use Rattle.std.specs.Prelude.{◌≡◌, ◌≢◌, ◌+◌, ◌<◌, ℕ, pos, List, get_or}
-use Rattle.dpl_array.specs.Elements.{behind}
-use Rattle.dpl_array.specs.declared.row.Row.{Row}
+use Rattle.dpl_array.specs.Elements.{Row, behind}
 use Rattle.dpl_language.specs.Tree.{AssignTree, IntKind}
 use Rattle.dpl_language.specs.Values.{Int}
 use Rattle.dpl_language.specs.Outcome.{Deeds, Done}

@@ -1,7 +1,7 @@
 // Ints that go into elements side by side, by whichever operator divides none.
 // It is as if each went into its element alone, one after another: none of them has a fault.
 
-ghost use Rattle.std.specs.Prelude.{◌≡◌, ◌≢◌, ◌≤◌, ◌<◌, ℕ, ℤ, pos, false, List, Some, None, get_or};
+ghost use Rattle.std.specs.Prelude.{◌≡◌, ◌≤◌, ◌<◌, ℕ, ℤ, pos, false, List, Some, None, get_or};
 ghost use Rattle.dpl_array.specs.Elements.{behind};
 ghost use Rattle.dpl_language.specs.Values.{Int};
 ghost use Rattle.dpl_language.specs.Arithmetic.{assigned, assign_divides};
@@ -16,8 +16,7 @@ use dpl_loop::{Row, STRIP, Strip};
 use dpl_nodes::{ArrayName, Spot};
 use dpl_tree::Assign;
 
-// What an operator makes of elements that stand side by side and of ints for them; nothing of an operator that divides, nor of a row whose
-// indices are all the same.
+// What an operator makes of elements that stand side by side and of ints for them; nothing of an operator that divides.
 fn changed<A: Arrays>(
     name: &ArrayName<'_>,
     op: Assign,
@@ -27,15 +26,14 @@ fn changed<A: Arrays>(
 ) -> Strip
     ensures size { result.size ≤ strip.size }
     ensures divides { 0 < result.size → assign_divides op ≡ false }
-    ensures moves { 0 < result.size → at.step ≢ pos 0 }
     ensures words { (k : ℕ) (old : ℤ) → k < result.size → k < 64 → held_at (behind k at) (array_at name.now.slot frame.now.memory) ≡ Some old
         → assigned op None (Int old) (Int (get_or strip.words k (pos 0))) ≡ Int (get_or result.words k (pos 0)) }
 {
-    if at.step == 0 || divides(op) {
-        return Strip::none(strip.row);
-    }
     if replaces(op) {
         return strip;
+    }
+    if divides(op) {
+        return Strip::none(strip.row);
     }
     let old = frame.run(name.slot, at);
     let size = strip.size.min(old.len()).min(STRIP);
@@ -66,8 +64,8 @@ pub fn put_row<A: Arrays>(
     ensures put { (arrays : List Held) × (frame.new ≡ with_memory (record frame.old.memory { arrays = arrays }) frame.old)
         × ArePut frame.old.limits name.now (signed op sign.now) at strip result frame.old.memory.arrays arrays }
 {
-    // Nothing is read here: that an index has coordinates is a clause of this call.
-    let _ = at.first.rank();
+    // Nothing is read here: that an index has coordinates, and that a row moves on, are clauses of these calls.
+    let _ = (at.first().rank(), at.step());
     let strip = changed(name, op, at, strip, frame);
     let size = strip.size.min(most).min(STRIP);
     frame.put_run(name.slot, at, &strip.words[..size])

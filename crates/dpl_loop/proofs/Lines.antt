@@ -7,8 +7,7 @@ use Rattle.dpl_range.specs.Invariant.{IsRange}
 use Rattle.dpl_sets.specs.Ranges.{members_of}
 use Rattle.dpl_sets.specs.TextRanges.{TextRange}
 use Rattle.dpl_sets.specs.Indices.{indices}
-use Rattle.dpl_array.specs.Elements.{along, behind}
-use Rattle.dpl_array.specs.declared.row.Row.{Row}
+use Rattle.dpl_array.specs.Elements.{Row, along, behind}
 use Rattle.dpl_language.specs.Ranges.{indices_in}
 use Rattle.dpl_array.proofs.InRows.{later-member}
 use Rattle.dpl_loop.proofs.Places.{within-there}

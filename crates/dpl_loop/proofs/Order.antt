@@ -2,8 +2,7 @@
 use Rattle.std.proofs.Common.{◌≡◌, ℕ, zero, suc, ◌+◌, ◌≤◌, ◌<◌, arith, List, drop, length, slice_get, Some, Err, sym, ap, ◌∙◌}
 use Rattle.std.proofs.lemmas.Option.{slice_get_within}
 use Rattle.dpl_range.proofs.Lists.{drop-slice_get}
-use Rattle.dpl_array.specs.Elements.{behind}
-use Rattle.dpl_array.specs.declared.row.Row.{Row}
+use Rattle.dpl_array.specs.Elements.{Row, behind}
 use Rattle.dpl_language.specs.Values.{Index}
 use Rattle.dpl_language.specs.Outcome.{Deeds, Done, Run, then_do, in_order, naming}
 use Rattle.dpl_language.specs.Loops.{named_turn}

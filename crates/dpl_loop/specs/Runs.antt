@@ -1,8 +1,7 @@
 -- How a loop, or a run of statements, answers: the language's meaning ends so.
 -- Where memory ran out or a worker was not started nothing is said of it, and where a gate refused, that it may.
 use Rattle.std.specs.Prelude.{◌≡◌, ◌+◌, ◌<◌, ℕ, List, drop, Result, Ok, Err}
-use Rattle.dpl_array.specs.Elements.{behind}
-use Rattle.dpl_array.specs.declared.row.Row.{Row}
+use Rattle.dpl_array.specs.Elements.{Row, behind}
 use Rattle.dpl_language.specs.Values.{Index}
 use Rattle.dpl_language.specs.Outcome.{Deeds, Outcome, Run, Done, Stop as StopAt, in_order}
 use Rattle.dpl_memory.specs.Memory.{Memory}

@@ -5,8 +5,7 @@ use Rattle.dpl_sets.specs.Indices.{indices}
 use Rattle.dpl_map.specs.Maps.{AxisValue, owner}
 use Rattle.dpl_language.specs.Tree.{Op}
 use Rattle.dpl_language.specs.Expressions.{folded}
-use Rattle.dpl_array.specs.Elements.{behind}
-use Rattle.dpl_array.specs.declared.row.Row.{Row}
+use Rattle.dpl_array.specs.Elements.{Row, behind}
 use Rattle.dpl_loop.specs.declared.strip.Strip.{Strip}
 use Rattle.std.specs.Borrow.{MutBor}
 use Rattle.dpl_language.specs.Values.{Value, Index, Fault}

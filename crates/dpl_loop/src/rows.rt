@@ -74,10 +74,7 @@ impl Places for RangeWord {
     }
 
     fn row(&self, index: Index, place: u64) -> (Row, u64) {
-        let row = Row {
-            first: index,
-            step: self.range.stride(),
-        };
+        let row = Row::new(index, self.range.stride());
         (row, self.range.size().saturating_sub(place))
     }
 }

@@ -2,8 +2,7 @@
 -- In each turn the variables hold its index, and the word is as the turns before have left it.
 use Rattle.std.proofs.Common.{◌≡◌, ◌<◌, ◌≤◌, ◌+◌, ℕ, zero, suc, ℤ, pos, List, length, get_or, None, refl, sym, subst, ap, ◌∙◌, arith}
 use Rattle.std.proofs.lemmas.List.{set-get_or, set-set, get_or-set_same, get_or-set_other}
-use Rattle.dpl_array.specs.Elements.{behind}
-use Rattle.dpl_array.specs.declared.row.Row.{Row}
+use Rattle.dpl_array.specs.Elements.{Row, behind}
 use Rattle.dpl_language.specs.Tree.{One, NoStmts, Then}
 use Rattle.dpl_language.specs.Values.{Int, Index}
 use Rattle.dpl_language.specs.Outcome.{Deeds, Done, with_ok, then_do}

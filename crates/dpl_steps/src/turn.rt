@@ -27,9 +27,9 @@ fn has_room(row: Row) -> bool
     ensures { result ≡ true → HasRoom row 64 }
 {
     // Nothing is read here: that an index has coordinates is a clause of this call.
-    let _ = row.first.rank();
-    let (_, _, inner) = row.first.numbers();
-    match row.step.checked_mul(STRIP as i64) {
+    let _ = row.first().rank();
+    let (_, _, inner) = row.first().numbers();
+    match row.step().checked_mul(STRIP as i64) {
         Some(more) => inner.checked_add(more).is_some(),
         None => false,
     }
@@ -41,9 +41,9 @@ fn behind(row: Row, k: usize) -> Index
     requires room { HasRoom row 64 }
     ensures { result ≡ behind k row }
 {
-    let (outer, middle, inner) = row.first.numbers();
-    let last = inner + row.step * k as i64;
-    match row.first.rank() {
+    let (outer, middle, inner) = row.first().numbers();
+    let last = inner + row.step() * k as i64;
+    match row.first().rank() {
         1 => coordinate(last),
         2 => plane(middle, last),
         _ => space(outer, middle, last),

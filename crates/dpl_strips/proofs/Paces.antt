@@ -2,8 +2,7 @@
 -- Each lemma has the words of a turn, or what is put into slots in it, on its left side.
 use Rattle.std.proofs.Common.{◌≡◌, arith, ℕ, ℤ, pos, ◌+ℤ◌, ◌*ℤ◌, List, [], ◌∷◌, map, length, get_or, set, Option, IfSome, FitsSigned, w64, refl, sym, subst, ap, ◌∙◌}
 use Rattle.dpl_domain.specs.Ranks.{last_of}
-use Rattle.dpl_array.specs.Elements.{along, behind}
-use Rattle.dpl_array.specs.declared.row.Row.{Row}
+use Rattle.dpl_array.specs.Elements.{Row, along, behind}
 use Rattle.dpl_language.specs.Tree.{Placed, AfterComma}
 use Rattle.dpl_language.specs.Values.{Int, Index}
 use Rattle.dpl_language.specs.Loops.{declare_each}

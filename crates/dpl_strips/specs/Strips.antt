@@ -2,8 +2,7 @@
 -- A strip is evaluated before those turns, and each of its ints is the value in the turn of its index all the same.
 use Rattle.std.specs.Prelude.{◌≡◌, ◌≢◌, ◌<◌, ℕ, ℤ, pos, ◌+ℤ◌, ◌*ℤ◌, List, [], ◌∷◌, get_or, set, None, Result, Ok, FitsSigned}
 use Rattle.std.specs.Int.{w64}
-use Rattle.dpl_array.specs.Elements.{behind}
-use Rattle.dpl_array.specs.declared.row.Row.{Row}
+use Rattle.dpl_array.specs.Elements.{Row, behind}
 use Rattle.dpl_language.specs.Values.{Value, Int, Domain, Index, index_of, Fault}
 use Rattle.dpl_language.specs.Outcome.{with_ok}
 use Rattle.dpl_language.specs.Environment.{Limits}

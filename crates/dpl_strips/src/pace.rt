@@ -92,17 +92,17 @@ fn each_held<A: Arrays>(
     ensures { IfSome result (GoesIn row.step (λ k. each_put (variable ∷ others.now) (behind k row) frame.now.memory.words.numbers) slot) }
 {
     let before = Some(Pace::Steady(frame.number(slot)));
-    let (outer, middle, inner) = row.first.numbers();
-    match (row.first.rank(), others.len()) {
-        (1, 0) => after(slot, variable, Pace::Stepping(inner), before, row.step, frame),
+    let (outer, middle, inner) = row.first().numbers();
+    match (row.first().rank(), others.len()) {
+        (1, 0) => after(slot, variable, Pace::Stepping(inner), before, row.step(), frame),
         (2, 1) => {
-            let before = after(slot, variable, Pace::Steady(middle), before, row.step, frame);
-            after(slot, others[0], Pace::Stepping(inner), before, row.step, frame)
+            let before = after(slot, variable, Pace::Steady(middle), before, row.step(), frame);
+            after(slot, others[0], Pace::Stepping(inner), before, row.step(), frame)
         }
         (3, 2) => {
-            let before = after(slot, variable, Pace::Steady(outer), before, row.step, frame);
-            let before = after(slot, others[0], Pace::Steady(middle), before, row.step, frame);
-            after(slot, others[1], Pace::Stepping(inner), before, row.step, frame)
+            let before = after(slot, variable, Pace::Steady(outer), before, row.step(), frame);
+            let before = after(slot, others[0], Pace::Steady(middle), before, row.step(), frame);
+            after(slot, others[1], Pace::Stepping(inner), before, row.step(), frame)
         }
         _ => None,
     }
@@ -114,7 +114,7 @@ fn local<A: Arrays>(slot: usize, names: &Names<'_>, row: Row, frame: &Frame<A>) 
 {
     match names {
         Names::Tuple(_) => Some(Pace::Steady(frame.number(slot))),
-        Names::Int(variable) if row.first.rank() == 1 => each_held(slot, *variable, &[], row, frame),
+        Names::Int(variable) if row.first().rank() == 1 => each_held(slot, *variable, &[], row, frame),
         Names::Int(_) => None,
         Names::Each(variable, others) => each_held(slot, *variable, others, row, frame),
     }
@@ -136,11 +136,11 @@ pub(crate) fn pace_of<A: Arrays>(
         IntExpr::Local(slot) if *slot != target => local(*slot, names, row, frame),
         IntExpr::Sum(a, b) => {
             let left = pace_of(a, names, target, row, frame)?;
-            left.plus(pace_of(b, names, target, row, frame)?, row.step)
+            left.plus(pace_of(b, names, target, row, frame)?, row.step())
         }
         IntExpr::Difference(a, b) => {
             let left = pace_of(a, names, target, row, frame)?;
-            left.minus(pace_of(b, names, target, row, frame)?, row.step)
+            left.minus(pace_of(b, names, target, row, frame)?, row.step())
         }
         _ => None,
     }

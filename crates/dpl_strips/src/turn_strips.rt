@@ -25,9 +25,10 @@ fn counted(row: Row, from: i64) -> Strip
     ensures row { result.row ≡ row }
     ensures words { (k : ℕ) → k < 64 → get_or result.words k (pos 0) ≡ wrap (from +ℤ wrap (row.step *ℤ pos k)) }
 {
+    let step = row.step();
     let mut words = [0; STRIP];
     for k in 0..STRIP {
-        words[k] = sum(from, product(row.step, k as i64));
+        words[k] = sum(from, product(step, k as i64));
     }
     Strip {
         row,
@@ -88,10 +89,7 @@ pub fn turn_row<A: Arrays>(
         }
         IndexExpr::Tuple(slot) => return tuple_row(*slot, names, target, row, frame),
     };
-    Some(Row {
-        first,
-        step: row.step,
-    })
+    Some(row.begun_at(first))
 }
 
 // The elements of an array that the turns find, where they lie side by side and no turn writes them.

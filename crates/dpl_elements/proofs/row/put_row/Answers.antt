@@ -23,7 +23,7 @@ returns-clause-put g c =
       are-put f.limits c.args.name.now c.args.op c.args.sign.now c.args.at c.args.strip made words f.memory.arrays
           (omega (arith, c.rank.ensures.rank, c.rank.ensures.limits))
           (λ some. c.changed-strip.ensures.divides (omega (arith, some, long, small, c.put_run.ensures.most)))
-          (λ some. c.changed-strip.ensures.moves (omega (arith, some, long, small, c.put_run.ensures.most)))
+          c.step.ensures.moves
           c.put_run.ensures.there
           (λ k below. (get_or strip.words k (pos 0), slice_get-get_or words k (pos 0) (omega (arith, below, c.put_run.ensures.most)) ∙ ap Some (get_or-take size strip.words k (pos 0) (omega (arith, below, long, c.put_run.ensures.most))), λ old at. c.changed-strip.ensures.words k old (omega (arith, below, long, small, c.put_run.ensures.most)) (omega (arith, below, long, few, c.put_run.ensures.most)) at)),
     )
