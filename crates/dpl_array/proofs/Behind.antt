@@ -1,5 +1,8 @@
--- Indices that lie along the last dimension from others, by their coordinates.
-use Rattle.std.proofs.Common.{◌≡◌, ℕ, zero, suc, ℤ, ◌+ℤ◌, [], ◌∷◌, refl, ap}
+-- Indices that lie along the last dimension from others, by their coordinates; and coordinates that fit a word.
+use Rattle.std.proofs.Common.{◌≡◌, ◌≤◌, ◌<◌, ◌*◌, ◌^◌, ℕ, zero, suc, ℤ, pos, negsuc, ◌+ℤ◌, ◌*ℤ◌, ◌≤ℤ◌, [], ◌∷◌, FitsSigned, w64, refl, ap, arith}
+use Rattle.std.proofs.lemmas.Int.{ints}
+use Rattle.std.proofs.Math.IntN.{pos-*ℤ-pos, negsuc-*ℤ-pos}
+use Rattle.std.proofs.Math.Nat.{mul-le-mul_left}
 use Rattle.dpl_domain.specs.Ranks.{last_of}
 use Rattle.dpl_array.specs.Elements.{along}
 
@@ -8,3 +11,20 @@ last-along d zero x y z w is = refl
 last-along d (suc zero) x y z w is = ap (λ i. i ∷ []) is
 last-along d (suc (suc zero)) x y z w is = ap (λ i. y ∷ i ∷ []) is
 last-along d (suc (suc (suc n))) x y z w is = ap (λ i. x ∷ y ∷ i ∷ []) is
+
+-- NUMBERS THAT FIT A WORD
+-- what lies between two that do
+pub fits-between : (a b c : ℤ) → a ≤ℤ b → b ≤ℤ c → FitsSigned w64 a → FitsSigned w64 c → FitsSigned w64 b
+fits-between a (pos n) (pos m) under over first last = let most : m < 2 ^ 63 = last.sfits in record { sfits = omega (arith, ints, over, most) }
+fits-between a (pos n) (negsuc m) under over first last = absurd (omega (arith, ints, over))
+fits-between (pos k) (negsuc n) c under over first last = absurd (omega (arith, ints, under))
+fits-between (negsuc k) (negsuc n) c under over first last = let most : k < 2 ^ 63 = first.sfits in record { sfits = omega (arith, ints, under, most) }
+
+-- what lies on the way from one so many steps further
+pub on-the-way : (from step : ℤ) (k n : ℕ) → k ≤ n → FitsSigned w64 from → FitsSigned w64 (from +ℤ step *ℤ pos n) → FitsSigned w64 (from +ℤ step *ℤ pos k)
+on-the-way from (pos s) k n most first last =
+    let less : s * k ≤ s * n = mul-le-mul_left s most in
+    fits-between from (from +ℤ pos s *ℤ pos k) (from +ℤ pos s *ℤ pos n) (omega (arith, ints, pos-*ℤ-pos s k)) (omega (arith, ints, less, pos-*ℤ-pos s k, pos-*ℤ-pos s n)) first last
+on-the-way from (negsuc s) k n most first last =
+    let less : suc s * k ≤ suc s * n = mul-le-mul_left (suc s) most in
+    fits-between (from +ℤ negsuc s *ℤ pos n) (from +ℤ negsuc s *ℤ pos k) from (omega (arith, ints, less, negsuc-*ℤ-pos s k, negsuc-*ℤ-pos s n)) (omega (arith, ints, negsuc-*ℤ-pos s k)) last first

@@ -14,6 +14,7 @@ use Rattle.dpl_domain.proofs.PlaceLemmas.{fewer-indices, length-filter_le}
 use Rattle.dpl_map.specs.Boxes.{AreBetween}
 use Rattle.dpl_map.proofs.AxisLemmas.{between-test, test-between}
 use Rattle.dpl_map.proofs.BoxLemmas.{IsBound-member}
+use Rattle.dpl_array.proofs.Behind.{fits-between}
 use Rattle.dpl_array.specs.Rows.{StandsIn}
 use Rattle.dpl_array.proofs.RowLemmas.{filter-stands}
 use Rattle.dpl_array.proofs.UnionLemmas.{filter-test, stands-filter}
@@ -207,12 +208,6 @@ between-at (l ∷ lows) (i ∷ t) (h ∷ highs) (suc d) between = between-at low
 pub bound-fits : (i : ℤ) → IsBound i → FitsSigned w64 i
 bound-fits (pos n) bound = record { sfits = omega (arith, ints, bound.1) }
 bound-fits (negsuc n) bound = record { sfits = omega (arith, ints, bound.0) }
-
-fits-between : (a b c : ℤ) → a ≤ℤ b → b ≤ℤ c → FitsSigned w64 a → FitsSigned w64 c → FitsSigned w64 b
-fits-between a (pos n) (pos m) under over first last = let most : m < 2 ^ 63 = last.sfits in record { sfits = omega (arith, ints, over, most) }
-fits-between a (pos n) (negsuc m) under over first last = absurd (omega (arith, ints, over))
-fits-between (pos k) (negsuc n) c under over first last = absurd (omega (arith, ints, under))
-fits-between (negsuc k) (negsuc n) c under over first last = let most : k < 2 ^ 63 = first.sfits in record { sfits = omega (arith, ints, under, most) }
 
 pub step-keeps : (step : Step) (low high : List ℤ) → FitsSigned w64 (slice_index_or low step.position (pos 0) +ℤ step.constant) → FitsSigned w64 (slice_index_or high step.position (pos 0) +ℤ step.constant) → KeepsStep step low high
 step-keeps step low high low_fits high_fits t between =

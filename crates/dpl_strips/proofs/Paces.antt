@@ -1,8 +1,10 @@
 -- The words of the turns of a row's indices, as the variables of the loop have them.
--- Each lemma has the words of a turn, or what is put into slots in it, on its left side.
-use Rattle.std.proofs.Common.{◌≡◌, arith, ℕ, ℤ, pos, ◌+ℤ◌, ◌*ℤ◌, List, [], ◌∷◌, map, length, get_or, set, Option, IfSome, FitsSigned, w64, refl, sym, subst, ap, ◌∙◌}
+-- Each lemma has an int or the words of a turn, or what is put into slots in it, on its left side.
+use Rattle.std.proofs.Common.{◌≡◌, ◌<◌, arith, ℕ, ℤ, pos, ◌+ℤ◌, ◌*ℤ◌, List, [], ◌∷◌, map, length, get_or, set, Option, IfSome, FitsSigned, w64, refl, sym, subst, ap, ◌∙◌}
+use Rattle.std.proofs.lemmas.Int.{int_wrap_fits}
 use Rattle.dpl_domain.specs.Ranks.{last_of}
 use Rattle.dpl_array.specs.Elements.{Row, along, behind}
+use Rattle.dpl_language.specs.Arithmetic.{wrap}
 use Rattle.dpl_language.specs.Tree.{Placed, AfterComma}
 use Rattle.dpl_language.specs.Values.{Int, Index}
 use Rattle.dpl_language.specs.Loops.{declare_each}
@@ -10,8 +12,15 @@ use Rattle.dpl_words.specs.Words.{IntLeaf}
 use Rattle.dpl_memory.specs.Memory.{PlainKind, Variable, Memory, int_leaf, with_value_in, in_memory}
 use Rattle.dpl_nodes.specs.Steps.{unplaced_leaf, next_name}
 use Rattle.dpl_strips.specs.declared.pace.Pace.{Pace}
-use Rattle.dpl_strips.specs.declared.pace.Pace.TheVariants.{Steady}
-use Rattle.dpl_strips.specs.Strips.{GoesIn, each_put}
+use Rattle.dpl_strips.specs.declared.pace.Pace.TheVariants.{Steady, Stepping}
+use Rattle.dpl_strips.specs.Strips.{FitsTurns, GoesIn, each_put, paced}
+
+-- ---- ints that step
+-- what steps so, and fits a word, is not changed by wrapping
+pub wrap-stepping : (step from : ℤ) (p : Pace) → FitsTurns step p → p ≡ Stepping from → (k : ℕ) → k < 64 → (z : ℤ) → z ≡ from +ℤ step *ℤ pos k → wrap z ≡ paced step p k
+wrap-stepping step from p fits goes k below z is =
+    let at : paced step p k ≡ z = ap (λ p. paced step p k) goes ∙ sym is in
+    ap wrap (sym at) ∙ int_wrap_fits w64 (paced step p k) (fits k below)
 
 -- ---- the variables of a loop
 -- words that are the same go the same

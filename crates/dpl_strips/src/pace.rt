@@ -23,33 +23,33 @@ pub(crate) enum Pace {
 }
 
 // The pace of an int that steps along with a row, if it does so all through a strip without leaving its word.
-fn stepping(from: i64, step: i64) -> Option<Pace>
-    ensures { IfSome result (λ p. FitsTurns step p × (p ≡ SteppingPace from)) }
+fn stepping(from: i64, row: Row) -> Option<Pace>
+    ensures { IfSome result (λ p. FitsTurns row.step p × (p ≡ SteppingPace from)) }
 {
-    from.checked_add(step.checked_mul(STRIP as i64 - 1)?)?;
+    from.checked_add(row.step().checked_mul(STRIP as i64 - 1)?)?;
     Some(Pace::Stepping(from))
 }
 
 impl Pace {
     // How the sum of two ints goes. Where both step there is no pace for it.
-    fn plus(self, other: Pace, step: i64) -> Option<Pace>
-        ensures { IfSome result (λ p. FitsTurns step p × ((k : ℕ) → k < 64 → wrap (paced step self k +ℤ paced step other k) ≡ paced step p k)) }
+    fn plus(self, other: Pace, row: Row) -> Option<Pace>
+        ensures { IfSome result (λ p. FitsTurns row.step p × ((k : ℕ) → k < 64 → wrap (paced row.step self k +ℤ paced row.step other k) ≡ paced row.step p k)) }
     {
         match (self, other) {
             (Pace::Steady(a), Pace::Steady(b)) => Some(Pace::Steady(sum(a, b))),
-            (Pace::Stepping(a), Pace::Steady(b)) => stepping(a.checked_add(b)?, step),
-            (Pace::Steady(a), Pace::Stepping(b)) => stepping(a.checked_add(b)?, step),
+            (Pace::Stepping(a), Pace::Steady(b)) => stepping(a.checked_add(b)?, row),
+            (Pace::Steady(a), Pace::Stepping(b)) => stepping(a.checked_add(b)?, row),
             (Pace::Stepping(_), Pace::Stepping(_)) => None,
         }
     }
 
     // How their difference goes. There is no pace where the second one steps.
-    fn minus(self, other: Pace, step: i64) -> Option<Pace>
-        ensures { IfSome result (λ p. FitsTurns step p × ((k : ℕ) → k < 64 → wrap (paced step self k -ℤ paced step other k) ≡ paced step p k)) }
+    fn minus(self, other: Pace, row: Row) -> Option<Pace>
+        ensures { IfSome result (λ p. FitsTurns row.step p × ((k : ℕ) → k < 64 → wrap (paced row.step self k -ℤ paced row.step other k) ≡ paced row.step p k)) }
     {
         match (self, other) {
             (Pace::Steady(a), Pace::Steady(b)) => Some(Pace::Steady(difference(a, b))),
-            (Pace::Stepping(a), Pace::Steady(b)) => stepping(a.checked_sub(b)?, step),
+            (Pace::Stepping(a), Pace::Steady(b)) => stepping(a.checked_sub(b)?, row),
             (_, Pace::Stepping(_)) => None,
         }
     }
@@ -62,11 +62,11 @@ fn after<A: Arrays>(
     variable: usize,
     held: Pace,
     before: Option<Pace>,
-    step: i64,
+    row: Row,
     frame: &Frame<A>,
 ) -> Option<Pace>
-    ensures { (numbers : ℕ → List ℤ) → ((k : ℕ) → length (numbers k) ≡ length frame.now.memory.words.numbers) → IfSome before (GoesIn step numbers slot)
-        → IfSome result (GoesIn step (λ k. set (numbers k) variable (paced step held k)) slot) }
+    ensures { (numbers : ℕ → List ℤ) → ((k : ℕ) → length (numbers k) ≡ length frame.now.memory.words.numbers) → IfSome before (GoesIn row.step numbers slot)
+        → IfSome result (GoesIn row.step (λ k. set (numbers k) variable (paced row.step held k)) slot) }
 {
     if slot != variable {
         return before;
@@ -76,7 +76,7 @@ fn after<A: Arrays>(
     }
     match held {
         Pace::Steady(_) => Some(held),
-        Pace::Stepping(from) => stepping(from, step),
+        Pace::Stepping(from) => stepping(from, row),
     }
 }
 
@@ -92,17 +92,18 @@ fn each_held<A: Arrays>(
     ensures { IfSome result (GoesIn row.step (λ k. each_put (variable ∷ others.now) (behind k row) frame.now.memory.words.numbers) slot) }
 {
     let before = Some(Pace::Steady(frame.number(slot)));
-    let (outer, middle, inner) = row.first().numbers();
-    match (row.first().rank(), others.len()) {
-        (1, 0) => after(slot, variable, Pace::Stepping(inner), before, row.step(), frame),
+    let first = row.first();
+    let (outer, middle, inner) = first.numbers();
+    match (first.rank(), others.len()) {
+        (1, 0) => after(slot, variable, Pace::Stepping(inner), before, row, frame),
         (2, 1) => {
-            let before = after(slot, variable, Pace::Steady(middle), before, row.step(), frame);
-            after(slot, others[0], Pace::Stepping(inner), before, row.step(), frame)
+            let before = after(slot, variable, Pace::Steady(middle), before, row, frame);
+            after(slot, others[0], Pace::Stepping(inner), before, row, frame)
         }
         (3, 2) => {
-            let before = after(slot, variable, Pace::Steady(outer), before, row.step(), frame);
-            let before = after(slot, others[0], Pace::Steady(middle), before, row.step(), frame);
-            after(slot, others[1], Pace::Stepping(inner), before, row.step(), frame)
+            let before = after(slot, variable, Pace::Steady(outer), before, row, frame);
+            let before = after(slot, others[0], Pace::Steady(middle), before, row, frame);
+            after(slot, others[1], Pace::Stepping(inner), before, row, frame)
         }
         _ => None,
     }
@@ -136,11 +137,11 @@ pub(crate) fn pace_of<A: Arrays>(
         IntExpr::Local(slot) if *slot != target => local(*slot, names, row, frame),
         IntExpr::Sum(a, b) => {
             let left = pace_of(a, names, target, row, frame)?;
-            left.plus(pace_of(b, names, target, row, frame)?, row.step())
+            left.plus(pace_of(b, names, target, row, frame)?, row)
         }
         IntExpr::Difference(a, b) => {
             let left = pace_of(a, names, target, row, frame)?;
-            left.minus(pace_of(b, names, target, row, frame)?, row.step())
+            left.minus(pace_of(b, names, target, row, frame)?, row)
         }
         _ => None,
     }

@@ -1,7 +1,7 @@
 // The ints of an expression in several turns of a loop at once, and where the elements lie that these turns find.
 // What is read is read before the turns, and so from no slot that they write. Each operator has a function of its own (see strip.rt).
 
-ghost use Rattle.std.specs.Prelude.{◌≡◌, ◌<◌, ℕ, pos, ◌+ℤ◌, None, get_or, IfSome};
+ghost use Rattle.std.specs.Prelude.{◌≡◌, ◌<◌, ℕ, pos, ◌+ℤ◌, ◌*ℤ◌, None, get_or, IfSome};
 ghost use Rattle.dpl_syntax.specs.declared.place.Place.{Place};
 ghost use Rattle.dpl_language.specs.Arithmetic.{wrap};
 ghost use Rattle.dpl_language.specs.Tree.{IntKind, Minus, Add, Subtract, Multiply, Divide, Remainder, Prefixed};
@@ -23,7 +23,7 @@ use dpl_nodes::{IndexExpr, IntExpr, Names};
 // Ints that follow one another by the row's step.
 fn counted(row: Row, from: i64) -> Strip
     ensures row { result.row ≡ row }
-    ensures words { (k : ℕ) → k < 64 → get_or result.words k (pos 0) ≡ wrap (from +ℤ wrap (row.step *ℤ pos k)) }
+    ensures words { (k : ℕ) → k < 64 → get_or result.words k (pos 0) ≡ wrap (from +ℤ row.step *ℤ pos k) }
 {
     let step = row.step();
     let mut words = [0; STRIP];

@@ -1,6 +1,6 @@
 -- At a place the next ints are put to the others, or one ends the loop.
 -- These are the answers to the goals of `gone_on`.
-use Rattle.std.proofs.Common.{◌+◌, ◌<◌, ◌^◌, inl, inr, ⊎_elim, drop, Some, sym, ap, ◌∙◌, arith, FitsSigned, w64, to_z, of_z, rules}
+use Rattle.std.proofs.Common.{◌≤◌, ◌+◌, ◌<◌, ◌^◌, inl, inr, ⊎_elim, drop, Some, sym, ap, ◌∙◌, arith, FitsSigned, w64, to_z, of_z, rules}
 use Rattle.std.proofs.lemmas.Int.{to_z-of_z}
 use Rattle.std.proofs.lemmas.Result.{err_from_is_err_and}
 use Rattle.dpl_sets.specs.Indices.{indices}

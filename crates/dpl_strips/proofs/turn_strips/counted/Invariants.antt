@@ -1,4 +1,4 @@
-use Rattle.std.proofs.Common.{◌≡◌, ◌<◌, ℕ, pos, ◌+ℤ◌, length, get_or}
+use Rattle.std.proofs.Common.{◌≡◌, ◌<◌, ℕ, pos, ◌+ℤ◌, ◌*ℤ◌, length, get_or}
 use Rattle.dpl_language.specs.Arithmetic.{wrap}
 use Rattle.dpl_strips.proofs.turn_strips.counted.Given as goal
 
@@ -6,5 +6,5 @@ use Rattle.dpl_strips.proofs.turn_strips.counted.Given as goal
 abbrev pub invariant-loop-k : goal.invariant-loop-k
 invariant-loop-k l = record {
   long : length l.words ≡ 64;
-  counted : (j : ℕ) → j < l.k → get_or l.words j (pos 0) ≡ wrap (l.from +ℤ pos j);
+  counted : (j : ℕ) → j < l.k → get_or l.words j (pos 0) ≡ wrap (l.from +ℤ l.step *ℤ pos j);
 }
