@@ -16,6 +16,7 @@ use crate::index::{coordinate, plane, space};
 use crate::number::{difference, product, sum};
 use crate::pace::{Pace, first_step, pace_of, steady};
 use crate::strip::{both, copied, negated, quotients, remainders, repeated, with_each};
+use dpl_domain::Index;
 use dpl_frame::{Arrays, Frame};
 use dpl_loop::{Row, STRIP, Strip};
 use dpl_nodes::{IndexExpr, IntExpr, Names};
@@ -48,19 +49,46 @@ fn of_pace(row: Row, pace: Pace) -> Strip
     }
 }
 
-// The row that a tuple's slot holds, if it holds the index of each turn.
-fn tuple_row<A: Arrays>(
+// The index that a tuple's slot holds in the first turn, if it holds that of each turn.
+fn tuple_index<A: Arrays>(
     slot: usize,
     names: &Names<'_>,
     target: usize,
     row: Row,
     frame: &Frame<A>,
-) -> Option<Row>
-    ensures { IfSome result (λ at. GoesFrom frame.now.limits names.now target row frame.now.memory (TupleIndex slot) at) }
+) -> Option<Index>
+    ensures { IfSome result (λ t. GoesFrom frame.now.limits names.now target row frame.now.memory (TupleIndex slot) (record row { first = t })) }
 {
     match names {
-        Names::Tuple(variable) if *variable == slot && frame.has_tuple(slot) => Some(row),
+        Names::Tuple(variable) if *variable == slot && frame.has_tuple(slot) => Some(row.first()),
         _ => None,
+    }
+}
+
+// The index that the first turn finds, where each turn finds one as far behind it as its own lies behind the first.
+fn first_index<A: Arrays>(
+    index: &IndexExpr<'_>,
+    names: &Names<'_>,
+    target: usize,
+    row: Row,
+    frame: &Frame<A>,
+) -> Option<Index>
+    ensures { IfSome result (λ t. GoesFrom frame.now.limits names.now target row frame.now.memory index.now (record row { first = t })) }
+{
+    match index {
+        IndexExpr::Line(i) => Some(coordinate(first_step(i, names, target, row, frame)?)),
+        IndexExpr::Plane(i, j) => {
+            let i = steady(i, names, target, row, frame)?;
+            let j = first_step(j, names, target, row, frame)?;
+            Some(plane(i, j))
+        }
+        IndexExpr::Space(i, j, k) => {
+            let i = steady(i, names, target, row, frame)?;
+            let j = steady(j, names, target, row, frame)?;
+            let k = first_step(k, names, target, row, frame)?;
+            Some(space(i, j, k))
+        }
+        IndexExpr::Tuple(slot) => tuple_index(*slot, names, target, row, frame),
     }
 }
 
@@ -74,21 +102,7 @@ pub fn turn_row<A: Arrays>(
 ) -> Option<Row>
     ensures { IfSome result (λ at. GoesFrom frame.now.limits names.now target row frame.now.memory index.now at) }
 {
-    let first = match index {
-        IndexExpr::Line(i) => coordinate(first_step(i, names, target, row, frame)?),
-        IndexExpr::Plane(i, j) => {
-            let i = steady(i, names, target, row, frame)?;
-            let j = first_step(j, names, target, row, frame)?;
-            plane(i, j)
-        }
-        IndexExpr::Space(i, j, k) => {
-            let i = steady(i, names, target, row, frame)?;
-            let j = steady(j, names, target, row, frame)?;
-            let k = first_step(k, names, target, row, frame)?;
-            space(i, j, k)
-        }
-        IndexExpr::Tuple(slot) => return tuple_row(*slot, names, target, row, frame),
-    };
+    let first = first_index(index, names, target, row, frame)?;
     Some(row.begun_at(first))
 }
 
