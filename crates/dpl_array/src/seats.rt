@@ -9,6 +9,7 @@ const SHIFT: u32 = 56;
 
 // By how many bits that of a round is. Rounds are counted from so many before the start, since numbers below it go round too.
 const ROUND_SHIFT: u32 = 32;
+
 const ROUNDS_BEFORE: i64 = 1 << 16;
 
 /// The blocks of one dimension, or its rounds: from which integer on they lie, what an offset is multiplied by, and the bits that the

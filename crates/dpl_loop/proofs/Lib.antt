@@ -15,4 +15,5 @@ pub mod Places
 pub mod Lines
 pub mod Folding
 pub mod Folds
+
 -- Strips.

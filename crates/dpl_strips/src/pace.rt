@@ -115,7 +115,13 @@ fn local<A: Arrays>(slot: usize, names: &Names<'_>, row: Row, frame: &Frame<A>) 
 {
     match names {
         Names::Tuple(_) => Some(Pace::Steady(frame.number(slot))),
-        Names::Int(variable) if row.first().rank() == 1 => each_held(slot, *variable, &[], row, frame),
+        Names::Int(variable) if row.first().rank() == 1 => each_held(
+            slot,
+            *variable,
+            &[],
+            row,
+            frame,
+        ),
         Names::Int(_) => None,
         Names::Each(variable, others) => each_held(slot, *variable, others, row, frame),
     }

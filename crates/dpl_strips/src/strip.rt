@@ -179,12 +179,7 @@ fn negatives<A: Arrays>(e: &PromotedInt<'_>, row: Row, frame: &Frame<A>) -> Stri
 // Sums of promoted ints.
 #[cycle(promoted)]
 #[inline(never)]
-fn sums<A: Arrays>(
-    a: &PromotedInt<'_>,
-    b: &PromotedInt<'_>,
-    row: Row,
-    frame: &Frame<A>,
-) -> Strip
+fn sums<A: Arrays>(a: &PromotedInt<'_>, b: &PromotedInt<'_>, row: Row, frame: &Frame<A>) -> Strip
     ensures row { result.row ≡ row }
     ensures values { HoldsAtIndices (λ i u. value_of frame.now.limits in_memory
         (two (promoted_int EachTurn a.now) nowhere Add (promoted_int EachTurn b.now)) (Some i) u) frame.now.memory result }
@@ -239,12 +234,7 @@ fn products<A: Arrays>(
 // Their quotients, by an int at hand that isn't 0.
 #[cycle(promoted)]
 #[inline(never)]
-fn divided<A: Arrays>(
-    a: &PromotedInt<'_>,
-    b: &PromotedInt<'_>,
-    row: Row,
-    frame: &Frame<A>,
-) -> Strip
+fn divided<A: Arrays>(a: &PromotedInt<'_>, b: &PromotedInt<'_>, row: Row, frame: &Frame<A>) -> Strip
     ensures row { result.row ≡ row }
     ensures values { (at : Place) → HoldsAtIndices (λ i u. value_of frame.now.limits in_memory
         (two (promoted_int EachTurn a.now) at Divide (promoted_int EachTurn b.now)) (Some i) u) frame.now.memory result }

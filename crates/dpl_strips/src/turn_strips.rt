@@ -204,11 +204,7 @@ fn differences<A: Arrays>(
     let left = turn_strip(a, names, target, row, frame);
     match steady(b, names, target, row, frame) {
         Some(n) => with_each(&left, n, difference),
-        None => both(
-            &left,
-            &turn_strip(b, names, target, row, frame),
-            difference,
-        ),
+        None => both(&left, &turn_strip(b, names, target, row, frame), difference),
     }
 }
 

@@ -18,6 +18,9 @@ returns-in_ok-checked_sub-in-Stepping-Steady c =
     let from_fits : FitsSigned w64 from = search rules in
     let made = simp to_z-of_z at c.in_ok-checked_sub-in-Stepping-Steady.ensures.1 in
     let goes = simp to_z-of_z at c.stepping.ensures in
-    IfSome_then c.stepping.result goes (λ p has. (has.0, λ k below.
-    wrap-stepping step from p has.0 has.1 k below (paced step c.args.self k -ℤ paced step c.args.other k)
-    (ap (λ p. paced step p k -ℤ paced step c.args.other k) c.in-Stepping-Steady.is-0 ∙ ap (λ p. (a +ℤ step *ℤ pos k) -ℤ paced step p k) c.in-Stepping-Steady.is-1 ∙ omega (arith, ints, made))))
+    IfSome_then c.stepping.result goes (λ p has. (
+      has.0,
+      λ k below.
+          wrap-stepping step from p has.0 has.1 k below (paced step c.args.self k -ℤ paced step c.args.other k)
+          (ap (λ p. paced step p k -ℤ paced step c.args.other k) c.in-Stepping-Steady.is-0 ∙ ap (λ p. (a +ℤ step *ℤ pos k) -ℤ paced step p k) c.in-Stepping-Steady.is-1 ∙ omega (arith, ints, made)),
+    ))
