@@ -271,7 +271,7 @@ fn meeting_in_both(rt: HostRuntime) {
 
 // Each worker enters for its own two places, in the forall and in the sum.
 #[test]
-fn halves(rt: HostRuntime) {
+fn each_enters_for_its_own_half(rt: HostRuntime) {
     let config = four_locales(&rt, Maps::AsIs);
     let gate = Halves {
         asked: AtomicU64::new(0),
