@@ -42,7 +42,7 @@ class File:
                 self.pass_on(bare)
                 continue
             depth = len(line) - len(line.lstrip())
-            if re.match(r"(module _|abbrev mutual|mutual|infix|pub mod|mod)", bare):
+            if re.match(r"(module _|abbrev mutual$|mutual$|infix[lr]? [0-9]|pub mod [A-Z]|mod [A-Z])", bare):
                 current = None
                 continue
             found = HEAD.match(bare)

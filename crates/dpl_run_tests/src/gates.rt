@@ -61,6 +61,33 @@ impl Gate for Counting {
     }
 }
 
+// Lets the worker of a place's half pass alone: places 0 and 1 are worker 0's, 2 and 3 worker 1's, and so on. It counts the entries.
+#[derive(Drop)]
+struct Halves {
+    asked: AtomicU64,
+}
+
+impl Gate for Halves {
+    ghost may_refuse = { λ _ _ _. Unit {0} };
+
+    fn enter(&self, worker: u32, place: u64) -> bool {
+        self.asked.fetch_add(1, Ordering::Relaxed);
+        place / 2 == worker as u64
+    }
+}
+
+// Refuses all entries of one worker.
+#[derive(Drop)]
+struct Without(u32);
+
+impl Gate for Without {
+    ghost may_refuse = { λ _ _ _. Unit {0} };
+
+    fn enter(&self, worker: u32, _place: u64) -> bool {
+        worker != self.0
+    }
+}
+
 // Whether a run is refused for an entry that is.
 fn asks_for<R: Threads + Wait + Sync>(
     rt: &R,
@@ -225,5 +252,45 @@ fn meeting_nobody(rt: HostRuntime) {
         "const D = {1..8} dmapped new blockDist(boundingBox={1..8}); var A: [D] int; forall i in D { var x = i; A[i] = x; } writeln(A);";
     let gate = Meeting::new(1, 1_000_000);
     let said = written(&rt, rt.alloc(), text.as_bytes(), &[], &config, &gate);
+    assert!(rt; said == Err(Refused::Gate));
+}
+
+// A forall over eight indices, by blocks of two on four locales, and a sum over its array.
+const SQUARES: &str =
+    "const D = {1..8} dmapped new blockDist(boundingBox={1..8}); var A: [D] int; forall i in D do A[i] = i*i; writeln(+ reduce A); writeln(A);";
+
+// Each of two workers makes two turns of the forall and folds two items of the sum, and they meet at all four.
+#[test]
+fn meeting_in_both(rt: HostRuntime) {
+    let config = four_locales(&rt, Maps::AsIs);
+    let gate = Meeting::new(4, 100_000_000);
+    let said = written(&rt, rt.alloc(), SQUARES.as_bytes(), &[], &config, &gate);
+    let wanted = bytes_of(&rt, rt.alloc(), "204~1 4 9 16 25 36 49 64~");
+    assert!(rt; said == Ok(wanted));
+}
+
+// Each worker enters for its own two places, in the forall and in the sum.
+#[test]
+fn each_enters_for_its_own_half(rt: HostRuntime) {
+    let config = four_locales(&rt, Maps::AsIs);
+    let gate = Halves {
+        asked: AtomicU64::new(0),
+    };
+    let said = written(&rt, rt.alloc(), SQUARES.as_bytes(), &[], &config, &gate);
+    let wanted = bytes_of(&rt, rt.alloc(), "204~1 4 9 16 25 36 49 64~");
+    assert!(&rt; said == Ok(wanted));
+    assert_eq!(rt; gate.asked.load(Ordering::Relaxed), 16);
+}
+
+// A refused entry goes before a fault, whichever worker has it: locale 0 faults in turn 3, and locale 2 is refused.
+#[test]
+fn refused_before_a_fault(rt: HostRuntime) {
+    let text =
+        "const D = {1..8} dmapped new blockDist(boundingBox={1..8}); var A: [D] int; forall i in D do A[i] = 12 / ((i-3)*(i-7));";
+    let config = Config::new(3, 16_777_216, 9, [3, 1], [3, 1, 1], Maps::AsIs).expect(
+        &rt,
+        "a configuration",
+    );
+    let said = written(&rt, rt.alloc(), text.as_bytes(), &[], &config, &Without(2));
     assert!(rt; said == Err(Refused::Gate));
 }
