@@ -1,7 +1,7 @@
 // Where the elements of a part stand that is one domain of stride 1, by plain numbers.
 // Elsewhere the spans are empty, and the part itself is searched.
 
-ghost use Rattle.std.specs.Prelude.{◌≡◌, ◌≤◌, ◌<◌, ◌+◌, ◌^◌, ℕ, ℤ, List, [], ◌∷◌, Some, IfSome, length, slice_get};
+ghost use Rattle.std.specs.Prelude.{◌≡◌, ◌≤◌, ◌^◌, [], ◌∷◌, Some, IfSome, length};
 ghost use Rattle.dpl_array.specs.Rows.{row_of};
 ghost use Rattle.dpl_array.specs.Windows.{StandsOnLine, StandsOnPlane};
 ghost use Rattle.dpl_array.specs.Spans.{AreSpansOf};

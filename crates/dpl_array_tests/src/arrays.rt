@@ -3,7 +3,7 @@
 
 use crate::made::{block, cyclic, domain, in_blocks, index, squares};
 use dpl_array::{DArray, Piece, Pieces, Row};
-use dpl_domain::{Domain, Index};
+use dpl_domain::Index;
 use dpl_map::Map;
 use std::alloc::Global;
 use std::process::Abort;

@@ -1,6 +1,6 @@
 -- Turns whose coordinate in one dimension lies between two numbers, and turns between two corners.
 -- A tuple of a product takes each coordinate from its own list.
-use Rattle.std.proofs.Common.{◌≡◌, ◌↔◌, ◌<◌, ◌≤◌, ◌^◌, ◌&&◌, ℕ, zero, suc, ℤ, pos, negsuc, ◌≤ℤ◌, ◌+ℤ◌, List, [], ◌∷◌, map, filter, length, slice_index_or, Bool, true, int_le, All, FitsSigned, ap, sym, subst, arith}
+use Rattle.std.proofs.Common.{◌≡◌, ◌↔◌, ◌<◌, ◌≤◌, ◌&&◌, ℕ, zero, suc, ℤ, pos, negsuc, ◌≤ℤ◌, ◌+ℤ◌, List, [], ◌∷◌, map, filter, length, slice_index_or, Bool, true, int_le, All, FitsSigned, ap, sym, subst, arith}
 use Rattle.std.specs.Int.{w64}
 use Rattle.std.proofs.lemmas.Int.{ints, int_wrap_fits}
 use Rattle.std.proofs.lemmas.Option.{slice_get_within, get_or_from_slice_get}

@@ -4,7 +4,7 @@ use Rattle.std.proofs.Common.{◌≡◌, ◌<◌, ◌≤◌, ◌+◌, ℕ, zero,
 use Rattle.std.proofs.lemmas.List.{set-get_or, set-set, get_or-set_same, get_or-set_other}
 use Rattle.dpl_array.specs.Elements.{Row, behind}
 use Rattle.dpl_language.specs.Tree.{One, NoStmts, Then}
-use Rattle.dpl_language.specs.Values.{Int, Index}
+use Rattle.dpl_language.specs.Values.{Int}
 use Rattle.dpl_language.specs.Outcome.{Deeds, Done, with_ok, then_do}
 use Rattle.dpl_language.specs.Environment.{Limits}
 use Rattle.dpl_language.specs.Expressions.{value_of}

@@ -1,6 +1,6 @@
 -- All ints up to the last one of a strip lie between the first and that.
 -- These are the answers to the goals of `stepping`.
-use Rattle.std.proofs.Common.{◌≡◌, ◌≤◌, ◌<◌, ℕ, ℤ, pos, ◌+ℤ◌, ◌*ℤ◌, FitsSigned, w64, to_z, of_z, subst, sym, ap, ◌∙◌, arith, rules}
+use Rattle.std.proofs.Common.{◌≡◌, pos, ◌+ℤ◌, ◌*ℤ◌, FitsSigned, w64, to_z, of_z, subst, sym, ap, ◌∙◌, arith, rules}
 use Rattle.std.proofs.lemmas.Int.{to_z-of_z}
 use Rattle.dpl_array.proofs.Behind.{on-the-way}
 use Rattle.dpl_strips.specs.declared.pace.Pace.TheVariants.{Stepping}
