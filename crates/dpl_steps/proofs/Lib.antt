@@ -6,3 +6,4 @@ pub mod Gathered
 pub mod ArrayItems
 pub mod Refusing
 pub mod FoldedTurns
+pub mod Rooms

@@ -26,13 +26,17 @@ use dpl_tree::Assign;
 fn has_room(row: Row) -> bool
     ensures { result ≡ true → HasRoom row 64 }
 {
+    let first = row.first();
     // Nothing is read here: that an index has coordinates is a clause of this call.
-    let _ = row.first().rank();
-    let (_, _, inner) = row.first().numbers();
-    match row.step().checked_mul(STRIP as i64) {
-        Some(more) => inner.checked_add(more).is_some(),
-        None => false,
-    }
+    let _ = first.rank();
+    let (_, _, inner) = first.numbers();
+    let Some(more) = row.step().checked_mul(STRIP as i64) else {
+        return false;
+    };
+    let Some(_last) = inner.checked_add(more) else {
+        return false;
+    };
+    true
 }
 
 // The index of a row that stands so many behind its first.
@@ -41,9 +45,10 @@ fn behind(row: Row, k: usize) -> Index
     requires room { HasRoom row 64 }
     ensures { result ≡ behind k row }
 {
-    let (outer, middle, inner) = row.first().numbers();
+    let first = row.first();
+    let (outer, middle, inner) = first.numbers();
     let last = inner + row.step() * k as i64;
-    match row.first().rank() {
+    match first.rank() {
         1 => coordinate(last),
         2 => plane(middle, last),
         _ => space(outer, middle, last),

@@ -17,6 +17,9 @@ use Rattle.dpl_steps.specs.Folded.{folded_words, Folds}
 use Rattle.dpl_steps.proofs.FoldedTurns.{row-folded}
 use Rattle.dpl_steps.proofs.turn.fold_row.Goals as goal
 
+pub behind-requires-clause-room : goal.behind-requires-clause-room
+behind-requires-clause-room g c = c.has_room.ensures (search rules)
+
 pub returns-then-not-has_room-clause-done : goal.returns-then-not-has_room-clause-done
 returns-then-not-has_room-clause-done g c = none-done _ c.args.row c.args.frame.now.memory
 
