@@ -1,6 +1,6 @@
 #!/bin/sh
 # Refuses growths of memory and starts of threads, one after another: a run whose k-th growth is refused ends with M1, or goes on as if nothing had happened (an arena
-# whose chunk is refused asks for a smaller one); one whose k-th start is refused, for whatever cause, ends with M2. Both have status 3, and nothing on standard output.
+# whose chunk is refused asks for a smaller one); one whose k-th start is refused, for whatever cause, ends with M2, or goes on where it is that of a reduction. Both have status 3, and nothing on standard output.
 # k goes from 1 to the first run of which nothing is left to refuse. The programs have loops that workers make.
 # usage: scripts/sweeps.sh [EXECUTABLE]. Needs python3 and a C compiler.
 set -eu
@@ -58,7 +58,8 @@ SQUARES = "const D = {1..40000} dmapped new blockDist(boundingBox={1..40000}); v
 FAULTS = "const D = {1..40000} dmapped new blockDist(boundingBox={1..40000});\nvar A: [D] int;\nforall i in D do\n  A[i] = 12 / ((i-15000)*(i-35000));"
 SUMS = "const D = {1..3, 1..12000} dmapped new cyclicDist(startIdx=(1, 1)); var A: [D] int; var B: [D] int; var s = 0; forall (i, j) in D with (+ reduce s) { A[i, j] = i * j; s += j; } B = A * 2 + 1; writeln(s, B[3, 12000]);"
 RANGES = "var A: [0..119999] bool; var p = 1; forall i in 0..119999 by 3 with (max reduce p) { if i % 2 == 0 then A[i] = true; p reduce= i; } A = !A; writeln(p, A[0], A[3]);"
-ROWS = [("squares", SQUARES, 4), ("faults", FAULTS, 3), ("sums and a whole array", SUMS, 4), ("a range, truth values", RANGES, 64)]
+# With how many locales, and how many starts are those of a reduction, of which the caller folds the part where no thread can be made.
+ROWS = [("squares", SQUARES, 4, 4), ("faults", FAULTS, 3, 0), ("sums and a whole array", SUMS, 4, 0), ("a range, truth values", RANGES, 64, 0)]
 
 
 def run(text, locales, maps, refusing):
@@ -74,7 +75,7 @@ def run(text, locales, maps, refusing):
 
 
 bad = 0
-for name, text, locales in ROWS:
+for name, text, locales, folds in ROWS:
     for maps in ("asis", "block", "cyclic"):
         _, whole = run(text, locales, maps, {})
         for kind, told in (("REFUSED_GROWTH", (b"dpl: M1\n", b"dpl: M2\n")), ("REFUSED_START", (b"dpl: M2\n",))):
@@ -82,7 +83,8 @@ for name, text, locales in ROWS:
             while was_refused:
                 k += 1
                 was_refused, done = run(text, locales, maps, {kind: str(k)})
-                if (done.returncode, done.stdout) == (whole.returncode, whole.stdout) and not (was_refused and kind == "REFUSED_START"):
+                may_go_on = not was_refused or kind == "REFUSED_GROWTH" or went_on < folds
+                if (done.returncode, done.stdout) == (whole.returncode, whole.stdout) and may_go_on:
                     went_on += was_refused
                 elif done.returncode == 3 and done.stdout == b"" and done.stderr in told:
                     starts += done.stderr == b"dpl: M2\n"
