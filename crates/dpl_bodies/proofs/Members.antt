@@ -10,7 +10,7 @@ use Rattle.dpl_rules.specs.Types.{Origin, same_origin}
 use Rattle.dpl_rules.specs.Sights.{Declared}
 use Rattle.dpl_rules.specs.Deeds.{Deed, Reads, ReadsAt, Writes, WritesAt, Holds}
 use Rattle.dpl_rules.specs.Verdicts.{owed}
-use Rattle.dpl_rules.specs.Bodies.{Turns, is_own, is_outer_array, is_in, written_by, written_arrays, write_breaches, read_breaches, change_breaches, holding_breaches, deed_breaches, each, forall_breaches}
+use Rattle.dpl_rules.specs.Bodies.{ForallScope, is_own, is_outer_array, is_in, written_by, written_arrays, write_breaches, read_breaches, change_breaches, holding_breaches, deed_breaches, each, forall_breaches}
 use Rattle.dpl_bodies.specs.Written.{with_origin, with_outer, all_written}
 
 or-false : (a : Bool) → (a || false) ≡ a
@@ -50,7 +50,7 @@ is_in-with_origin o os p = by (is_in p os) refl
     by true there = again there (same_origin o p) refl ∙ ap (λ s. is_in o os || s) (sym (or-false (same_origin o p)))
     by false new = is_in-append o os (p ∷ [])
 
-module _ (loop : Turns) (o : Origin) where
+module _ (loop : ForallScope) (o : Origin) where
   is_in-with_outer : (os : List Origin) (d : Declared) → is_in o (with_outer loop os d) ≡ (is_in o os || is_in o (written_by loop d))
   is_in-with_outer os d =
       elim (is_outer_array loop d) as (λ t. is_in o (if t then with_origin os d.origin else os) ≡ (is_in o os || is_in o (if t then d.origin ∷ [] else [])))
@@ -74,7 +74,7 @@ module _ (loop : Turns) (o : Origin) where
   is_in-all_written os (WritesAt at d is op ∷ ds) = is_in-written os d ds (is_in-all_written (with_outer loop os d) ds)
   is_in-all_written os (Holds at h ∷ ds) = is_in-all_written os ds
 
-module _ (loop : Turns) (v w : List Origin) (alike : (o : Origin) → is_in o v ≡ is_in o w) where
+module _ (loop : ForallScope) (v w : List Origin) (alike : (o : Origin) → is_in o v ≡ is_in o w) where
   read_breaches-alike : (d : Deed) → read_breaches loop v d ≡ read_breaches loop w d
   read_breaches-alike (Reads at d) = ap (λ b. owed (not b) at ReadElsewhere) (alike d.origin)
   read_breaches-alike (ReadsAt at d is) = ap (λ b. owed (not b || is_own loop is) at ReadElsewhere) (alike d.origin)
@@ -88,5 +88,5 @@ module _ (loop : Turns) (v w : List Origin) (alike : (o : Origin) → is_in o v 
       ap (λ bs. (write_breaches loop d ++ bs ++ change_breaches loop d ++ holding_breaches d) ++ each (deed_breaches loop v) ds) (read_breaches-alike d)
       ∙ ap (λ bs. deed_breaches loop w d ++ bs) (each-alike ds)
 
-pub forall_breaches_written : (loop : Turns) (ds : List Deed) → each (deed_breaches loop (all_written loop [] ds)) ds ≡ forall_breaches loop ds
+pub forall_breaches_written : (loop : ForallScope) (ds : List Deed) → each (deed_breaches loop (all_written loop [] ds)) ds ≡ forall_breaches loop ds
 forall_breaches_written loop ds = each-alike loop (all_written loop [] ds) (written_arrays loop ds) (λ o. is_in-all_written loop o [] ds) ds

@@ -7,11 +7,11 @@ use Rattle.dpl_language.specs.Phrases.{intents_of}
 use Rattle.dpl_tree.specs.Declarations.{optional}
 use Rattle.dpl_tree.specs.Statements.{variables_view, with_view}
 use Rattle.dpl_rules.specs.Loops.{variables_of}
-use Rattle.dpl_rules.specs.Bodies.{Turns, names_of}
-use Rattle.dpl_bodies.specs.declared.turns.Turns.{Turns as TurnsNode}
+use Rattle.dpl_rules.specs.Bodies.{ForallScope, names_of}
+use Rattle.dpl_bodies.specs.declared.scope.ForallScope.{ForallScope as ForallScopeNode}
 
-abbrev pub turns_view : TurnsNode → Turns
-turns_view t = record {
+abbrev pub scope_view : ForallScopeNode → ForallScope
+scope_view t = record {
   variables = names_of (variables_of (variables_view t.variables));
   reducing = record { depth = t.depth; variables = intents_of (optional with_view t.with) };
 }

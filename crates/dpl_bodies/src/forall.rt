@@ -8,10 +8,10 @@ ghost use Rattle.dpl_rules.specs.Bodies.{forall_breaches as forall_breaches_of};
 ghost use Rattle.dpl_rules.specs.Breaches.{least_from};
 ghost use Rattle.dpl_scopes.specs.View.{declared_view};
 ghost use Rattle.dpl_deeds.specs.View.{holding_view, deed_view};
-ghost use Rattle.dpl_bodies.specs.View.{turns_view};
+ghost use Rattle.dpl_bodies.specs.View.{scope_view};
 ghost use Rattle.dpl_bodies.specs.Written.{with_outer, with_written, all_written as all_written_of};
 
-use crate::turns::Turns;
+use crate::scope::ForallScope;
 use crate::written::Written;
 use dpl_deeds::{Deed, Holding};
 use dpl_scopes::Declared;
@@ -21,11 +21,11 @@ use std::alloc::{AllocError, Global};
 
 // A name that is written: an outer array is put among those so far.
 fn put_outer<'t>(
-    turns: &Turns<'_>,
+    turns: &ForallScope<'_>,
     declared: Declared<'t>,
     written: &mut Written<'t>,
 ) -> Result<(), AllocError>
-    ensures { OnOk result (written.new ≡ with_outer (turns_view turns.now) written.old (declared_view declared.entry)) }
+    ensures { OnOk result (written.new ≡ with_outer (scope_view turns.now) written.old (declared_view declared.entry)) }
 {
     if turns.is_outer_array(declared) {
         written.put(declared.origin)
@@ -36,11 +36,11 @@ fn put_outer<'t>(
 
 // A deed: an outer array that it writes is put among those so far.
 fn put_written<'t>(
-    turns: &Turns<'_>,
+    turns: &ForallScope<'_>,
     deed: &Deed<'t>,
     written: &mut Written<'t>,
 ) -> Result<(), AllocError>
-    ensures { OnOk result (written.new ≡ with_written (turns_view turns.now) written.old (deed_view deed.now)) }
+    ensures { OnOk result (written.new ≡ with_written (scope_view turns.now) written.old (deed_view deed.now)) }
 {
     match deed {
         Deed::Writes(_, declared, _) | Deed::WritesAt(_, declared, _, _) => {
@@ -53,10 +53,10 @@ fn put_written<'t>(
 // The outer arrays that a forall's body writes.
 fn all_written<'t>(
     alloc: Global,
-    turns: &Turns<'_>,
+    turns: &ForallScope<'_>,
     deeds: &[Deed<'t>],
 ) -> Result<Written<'t>, AllocError>
-    ensures { IfOk result (λ w. w ≡ all_written_of (turns_view turns.now) [] (map deed_view deeds.now)) }
+    ensures { IfOk result (λ w. w ≡ all_written_of (scope_view turns.now) [] (map deed_view deeds.now)) }
 {
     let mut written = Written::new(alloc);
     for deed in deeds {
@@ -66,8 +66,8 @@ fn all_written<'t>(
 }
 
 // C6: an outer array is written at the own index alone.
-fn write_breaches(turns: &Turns<'_>, deed: &Deed<'_>, first: &mut Option<Breach>)
-    ensures { first.new ≡ least_from first.old (write_breaches_of (turns_view turns.now) (deed_view deed.now)) }
+fn write_breaches(turns: &ForallScope<'_>, deed: &Deed<'_>, first: &mut Option<Breach>)
+    ensures { first.new ≡ least_from first.old (write_breaches_of (scope_view turns.now) (deed_view deed.now)) }
 {
     match deed {
         Deed::Reads(_, _) | Deed::ReadsAt(_, _, _) | Deed::Holds(_, _) => {}
@@ -88,12 +88,12 @@ fn write_breaches(turns: &Turns<'_>, deed: &Deed<'_>, first: &mut Option<Breach>
 
 // C7: an array that is written is read at the own index alone.
 fn read_breaches(
-    turns: &Turns<'_>,
+    turns: &ForallScope<'_>,
     written: &Written<'_>,
     deed: &Deed<'_>,
     first: &mut Option<Breach>,
 )
-    ensures { first.new ≡ least_from first.old (read_breaches_of (turns_view turns.now) written.now (deed_view deed.now)) }
+    ensures { first.new ≡ least_from first.old (read_breaches_of (scope_view turns.now) written.now (deed_view deed.now)) }
 {
     match deed {
         Deed::Reads(at, declared) => {
@@ -113,8 +113,8 @@ fn read_breaches(
 }
 
 // C8: an outer scalar, locale or domain is changed through its reduce intent alone, and a reduce variable isn't read.
-fn change_breaches(turns: &Turns<'_>, deed: &Deed<'_>, first: &mut Option<Breach>)
-    ensures { first.new ≡ least_from first.old (change_breaches_of (turns_view turns.now) (deed_view deed.now)) }
+fn change_breaches(turns: &ForallScope<'_>, deed: &Deed<'_>, first: &mut Option<Breach>)
+    ensures { first.new ≡ least_from first.old (change_breaches_of (scope_view turns.now) (deed_view deed.now)) }
 {
     match deed {
         Deed::Reads(at, declared) | Deed::ReadsAt(at, declared, _) => {
@@ -168,12 +168,12 @@ fn holding_breaches(deed: &Deed<'_>, first: &mut Option<Breach>)
 // What one deed of a forall's body breaks, by the outer arrays that the body writes.
 #[tactic(auto, using(dpl_types::proofs::Breaches::least_from_append))]
 fn deed_breaches(
-    turns: &Turns<'_>,
+    turns: &ForallScope<'_>,
     written: &Written<'_>,
     deed: &Deed<'_>,
     first: &mut Option<Breach>,
 )
-    ensures { first.new ≡ least_from first.old (deed_breaches_of (turns_view turns.now) written.now (deed_view deed.now)) }
+    ensures { first.new ≡ least_from first.old (deed_breaches_of (scope_view turns.now) written.now (deed_view deed.now)) }
 {
     write_breaches(turns, deed, first);
     read_breaches(turns, written, deed, first);
@@ -184,12 +184,12 @@ fn deed_breaches(
 // What the deeds of a forall's body break, by the outer arrays that the body writes.
 #[tactic(auto, using(dpl_types::proofs::Breaches::least_from_append))]
 fn each_breaches(
-    turns: &Turns<'_>,
+    turns: &ForallScope<'_>,
     written: &Written<'_>,
     deeds: &[Deed<'_>],
     first: &mut Option<Breach>,
 )
-    ensures { first.new ≡ least_from first.old (each (deed_breaches_of (turns_view turns.now) written.now) (map deed_view deeds.now)) }
+    ensures { first.new ≡ least_from first.old (each (deed_breaches_of (scope_view turns.now) written.now) (map deed_view deeds.now)) }
 {
     for deed in deeds {
         deed_breaches(turns, written, deed, first);
@@ -203,11 +203,11 @@ fn each_breaches(
 #[tactic(auto, using(crate::proofs::Members::forall_breaches_written))]
 pub fn forall_breaches(
     alloc: Global,
-    turns: &Turns<'_>,
+    turns: &ForallScope<'_>,
     deeds: &[Deed<'_>],
     first: &mut Option<Breach>,
 ) -> Result<(), AllocError>
-    ensures ok { OnOk result (first.new ≡ least_from first.old (forall_breaches_of (turns_view turns.now) (map deed_view deeds.now))) }
+    ensures ok { OnOk result (first.new ≡ least_from first.old (forall_breaches_of (scope_view turns.now) (map deed_view deeds.now))) }
     ensures err { OnErr result (first.new ≡ first.old) }
 {
     let written = all_written(alloc, turns, deeds)?;

@@ -5,7 +5,7 @@
 pub mod forall;
 pub mod outside;
 pub mod task;
-mod turns;
+mod scope;
 mod written;
 
-pub use turns::Turns;
+pub use scope::ForallScope;

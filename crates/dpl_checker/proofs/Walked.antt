@@ -17,7 +17,7 @@ use Rattle.dpl_rules.specs.Assignments.{condition_breaches, on_breaches}
 use Rattle.dpl_rules.specs.Loops.{LoopWord, ForWord, ForallWord, CoforallWord, typed_variable, over_type, variables_of, header_breaches, with_breaches, behind}
 use Rattle.dpl_rules.specs.Deeds.{Deed, AForall, ACoforall, AnOn, held, expr_deeds, item_deeds}
 use Rattle.dpl_rules.specs.Doings.{with_deeds, stmt_deeds, body_deeds, stmts_deeds, else_deeds}
-use Rattle.dpl_rules.specs.Bodies.{Turns, names_of, turns_of, forall_breaches, task_breaches, inner_reductions}
+use Rattle.dpl_rules.specs.Bodies.{ForallScope, names_of, forall_scope, forall_breaches, task_breaches, inner_reductions}
 use Rattle.dpl_rules.specs.Breaches.{stmt_breaches, body_breaches, stmts_breaches, else_breaches, top, top_sight, all_declarations, count_breaches, least_from}
 use Rattle.dpl_rules.specs.Sound.{behind_all}
 use Rattle.dpl_types.proofs.Breaches.{least_from_append}
@@ -137,7 +137,7 @@ told_around o p q r head body does first second third =
 abbrev pub in_turns : ℕ → Option With → Around → Around
 in_turns depth with around = record { forall = Some (record { depth = depth; with = with }); in_task = around.in_task }
 
-abbrev pub turns_at : ℕ → VariablesTree Text → Option With → Turns
+abbrev pub turns_at : ℕ → VariablesTree Text → Option With → ForallScope
 turns_at depth xs with = record { variables = names_of (variables_of xs); reducing = record { depth = depth; variables = intents_of (optional with_view with) } }
 
 abbrev pub in_task : Around → Around
@@ -162,16 +162,16 @@ module _ (at : Place) (xs : VariablesTree Text) (word : Place) (item : ItemTree 
       let turns = body_where vs inner body (record b { deeds = intended }) c opened.0
       (subst (λ n. WalksBody (in_turns n with around) body (record b { deeds = intended }) c) deep w) in
       let ds = body_deeds (enter vs) body in
-      let does : told ≡ least_from c.first (forall_breaches (turns_of ss xs intents) ds) =
+      let does : told ≡ least_from c.first (forall_breaches (forall_scope ss xs intents) ds) =
       t ∙ ap (λ n. least_from c.first (forall_breaches (turns_at n xs with) (map deed_view (drop start c.deeds.items)))) deep
-      ∙ ap (λ es. least_from c.first (forall_breaches (turns_of ss xs intents) es)) (behind_start start intended.items c.deeds.items ds begin turns.1) in
+      ∙ ap (λ es. least_from c.first (forall_breaches (forall_scope ss xs intents) es)) (behind_start start intended.items c.deeds.items ds begin turns.1) in
       let head = held at AForall ++ item_deeds ss false item in
       let begun = adds_then a.deeds.items marked.items b.deeds.items (held at AForall) (item_deeds ss false item) mark opened.1 in
       let shared = adds_then a.deeds.items b.deeds.items intended.items head (with_deeds intents) begun intend in (
         variables_left ss ForallWord xs item c.scopes left turns.0 l,
         adds_then a.deeds.items intended.items c.deeds.items (head ++ with_deeds intents) ds shared turns.1,
         told_around a.first b.first c.first told (header_breaches ss ForallWord xs item ++ with_breaches ss intents)
-            (body_breaches (sight_in (enter vs) inner) body) (forall_breaches (turns_of ss xs intents) ds) opened.2 turns.2 does,
+            (body_breaches (sight_in (enter vs) inner) body) (forall_breaches (forall_scope ss xs intents) ds) opened.2 turns.2 does,
       )
 
   pub coforall_walks : (depth start : ℕ) (a : Check) (marked : Vec DeedNode) (b : Check) (intended : Vec DeedNode) (c : Check) (left : Scopes) (told : Option Breach)

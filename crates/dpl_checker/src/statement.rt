@@ -10,7 +10,7 @@ ghost use Rattle.dpl_checker.specs.Walks.{WalksStmt, WalksStmts, WalksBody, Walk
 
 use crate::form::{assigned, called, declare, open_loop, open_shared, printed, sent, tested};
 use crate::walk::{Around, Check, Walked};
-use dpl_bodies::Turns;
+use dpl_bodies::ForallScope;
 use dpl_bodies::forall::forall_breaches;
 use dpl_bodies::task::task_breaches;
 use dpl_deeds::statement::with_deeds;
@@ -126,7 +126,7 @@ fn forall_turns<'t>(walk: &mut Check<'t>, around: Around<'t>, turns: &Forall<'t>
     ensures { OnOk result (WalksStmt around.entry (ForallTree turns.now.at (variables_view turns.now.variables) turns.now.within (item_view turns.now.over)
         (optional with_view turns.now.with) (body_view turns.now.body)) walk.old walk.new) }
 {
-    let seen = Turns {
+    let seen = ForallScope {
         depth: walk.scopes.depth(),
         variables: turns.variables,
         with: turns.with,

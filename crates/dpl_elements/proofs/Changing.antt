@@ -5,7 +5,7 @@ use Rattle.dpl_syntax.specs.declared.place.Place.{Place}
 use Rattle.dpl_language.specs.Tree.{Assign, Set, SetAdd, SetSubtract, SetMultiply, SetDivide, SetRemainder, SetReduce, ItemTree, InitialTree}
 use Rattle.dpl_language.specs.Values.{Value, Fault, is_domain}
 use Rattle.dpl_language.specs.Arithmetic.{assign_divides, tested_divisor}
-use Rattle.dpl_language.specs.Outcome.{Deeds, Outcome, Done, Stop as StopAt, Waits, Run, with_ok, with_value, then_do}
+use Rattle.dpl_language.specs.Outcome.{Deeds, Outcome, Done, Stop, Waits, Run, with_ok, with_value, then_do}
 use Rattle.dpl_language.specs.Environment.{Limits, Plain}
 use Rattle.dpl_language.specs.Phrases.{item_read}
 use Rattle.dpl_language.specs.Expressions.{item_of}
@@ -23,8 +23,8 @@ use Rattle.dpl_nodes.specs.declared.step.IntDeed.TheVariants as deeds
 use Rattle.dpl_nodes.specs.declared.step.TruthDeed.{TruthDeed}
 use Rattle.dpl_nodes.specs.declared.step.TruthDeed.TheVariants as deed
 use Rattle.dpl_nodes.specs.Steps.{unplaced_leaf, declared_as, assigned_to, int_changed, truth_changed}
-use Rattle.dpl_loop.specs.declared.stop.Stop.{Stop}
-use Rattle.dpl_loop.specs.declared.stop.Stop.TheVariants as stop
+use Rattle.dpl_loop.specs.declared.stop.RunStop.{RunStop}
+use Rattle.dpl_loop.specs.declared.stop.RunStop.TheVariants as stop
 use Rattle.dpl_frame.specs.Faults.{fault_view}
 use Rattle.dpl_loop.specs.Runs.{RunsTo}
 use Rattle.dpl_loop.specs.Values.{Gives}
@@ -32,22 +32,22 @@ use Rattle.dpl_loop.specs.Tells.{IsFault, TellsSame}
 use Rattle.dpl_elements.specs.Changes.{declared_memory, given_memory, assigned_memory, int_changed_by, int_memory, truth_memory, memory_after, ends_as}
 
 -- what is evaluated ends the run early: by its fault, as the meaning does, or where an entry was refused
-pub gives-halts : {A B : Type 0} (may more : Type 0) (value : A → B) (h : Stop) (v : Result B Fault) (s : Memory) (done : Deeds) (o : Outcome Memory)
-    → (may → more) → ((f : Fault) → v ≡ Err f → o ≡ StopAt f done) → Gives may value (Err h) v → RunsTo more (Err h) s done o
+pub gives-halts : {A B : Type 0} (may more : Type 0) (value : A → B) (h : RunStop) (v : Result B Fault) (s : Memory) (done : Deeds) (o : Outcome Memory)
+    → (may → more) → ((f : Fault) → v ≡ Err f → o ≡ Stop f done) → Gives may value (Err h) v → RunsTo more (Err h) s done o
 gives-halts may more value (stop.Fault f) v s done o go faults gives = faults (fault_view f) gives
 gives-halts may more value stop.Memory v s done o go faults gives = tt
 gives-halts may more value stop.Thread v s done o go faults gives = tt
 gives-halts may more value stop.Gate v s done o go faults gives = go gives
 
 -- a fault that is told
-pub fault-gives : {A B : Type 0} (may : Type 0) (value : A → B) (f : Fault) (h : Stop) (v : Result B Fault) → IsFault f h → v ≡ Err f → Gives may value (Err h) v
+pub fault-gives : {A B : Type 0} (may : Type 0) (value : A → B) (f : Fault) (h : RunStop) (v : Result B Fault) → IsFault f h → v ≡ Err f → Gives may value (Err h) v
 fault-gives may value f (stop.Fault g) v is e = e ∙ ap Err (sym is)
 fault-gives may value f stop.Memory v is e = absurd is
 fault-gives may value f stop.Thread v is e = absurd is
 fault-gives may value f stop.Gate v is e = absurd is
 
 -- a change ends the run as the memory after it does
-pub gives-ends : (may : Type 0) (r : Result (Unit {0}) Stop) (s : Memory) (done : Deeds) (m : Result Memory Fault) (o : Outcome Memory) → o ≡ ends_as m done → Gives may (λ v. s) r m → RunsTo may r s done o
+pub gives-ends : (may : Type 0) (r : Result (Unit {0}) RunStop) (s : Memory) (done : Deeds) (m : Result Memory Fault) (o : Outcome Memory) → o ≡ ends_as m done → Gives may (λ v. s) r m → RunsTo may r s done o
 gives-ends may (Ok v) s done m o e gives = e ∙ ap (λ m. ends_as m done) gives
 gives-ends may (Err (stop.Fault f)) s done m o e gives = e ∙ ap (λ m. ends_as m done) gives
 gives-ends may (Err stop.Memory) s done m o e gives = tt
@@ -55,11 +55,11 @@ gives-ends may (Err stop.Thread) s done m o e gives = tt
 gives-ends may (Err stop.Gate) s done m o e gives = gives
 
 -- a change that is told ends the run as the memory after it does
-pub told-ends : (may : Type 0) (r : Result (Unit {0}) Fault) (h : Result (Unit {0}) Stop) (s : Memory) (done : Deeds) (o : Outcome Memory) → TellsSame r h → o ≡ ends_as (memory_after r s) done → RunsTo may h s done o
+pub told-ends : (may : Type 0) (r : Result (Unit {0}) Fault) (h : Result (Unit {0}) RunStop) (s : Memory) (done : Deeds) (o : Outcome Memory) → TellsSame r h → o ≡ ends_as (memory_after r s) done → RunsTo may h s done o
 told-ends may (Ok v) (Ok w) s done o t e = e
 told-ends may (Ok v) (Err h) s done o t e = absurd t
 told-ends may (Err f) (Ok w) s done o t e = absurd t
-told-ends may (Err f) (Err (stop.Fault g)) s done o t e = e ∙ ap (λ f. StopAt f done) (sym t)
+told-ends may (Err f) (Err (stop.Fault g)) s done o t e = e ∙ ap (λ f. Stop f done) (sym t)
 told-ends may (Err f) (Err stop.Memory) s done o t e = absurd t
 told-ends may (Err f) (Err stop.Thread) s done o t e = absurd t
 told-ends may (Err f) (Err stop.Gate) s done o t e = absurd t
@@ -89,7 +89,7 @@ module _ (limits : Limits) where
   then-undealt : (k : LeafKind) (slot : ℕ) (i : Option (InitialTree Variable)) (s : Memory) (o : Outcome Memory)
       → then_do o (λ after done. Done (deal_domain limits in_memory None i (variable (PlainKind k) slot) (value_at k slot after.words) s after) done) ≡ o
   then-undealt k slot i s (Done after done) = ap (λ (m : Memory). Done m done) (plain-undealt k slot i s after)
-  then-undealt k slot i s (StopAt f done) = refl
+  then-undealt k slot i s (Stop f done) = refl
   then-undealt k slot i s (Waits at c op done) = refl
 
   pub exec-declared : (k : LeafKind) (slot : ℕ) (item : ItemTree Variable) (s : Memory) (done : Deeds) → item_read item ≡ None

@@ -5,14 +5,14 @@ use Rattle.dpl_map.specs.Maps.{AxisValue, owner}
 use Rattle.dpl_language.specs.Outcome.{Deeds, Outcome}
 use Rattle.dpl_memory.specs.Memory.{Memory}
 use Rattle.dpl_frame.specs.Frames.{Framed}
-use Rattle.dpl_loop.specs.declared.stop.Stop.{Stop}
+use Rattle.dpl_loop.specs.declared.stop.RunStop.{RunStop}
 use Rattle.dpl_loop.specs.Runs.{RunsTo}
 use Rattle.dpl_loop.specs.Entries.{MayRefuse, MayRefuseSome}
 use Rattle.dpl_loop.proofs.Ends.{ends-alike, ends-where}
 use Rattle.dpl_values.specs.Reductions.{MayRefuseReduction}
 
 -- the same outcome, where more may be refused
-pub ends-wider : (may more : Type 0) (r : Result (Unit {0}) Stop) (s : Memory) (done : Deeds) (o p : Outcome Memory) → (may → more) → p ≡ o → RunsTo may r s done o → RunsTo more r s done p
+pub ends-wider : (may more : Type 0) (r : Result (Unit {0}) RunStop) (s : Memory) (done : Deeds) (o p : Outcome Memory) → (may → more) → p ≡ o → RunsTo may r s done o → RunsTo more r s done p
 ends-wider may more r s done o p wider e ends = ends-alike more r s done o p e (ends-where may more r s done o wider ends)
 
 -- an entry of a loop is some entry

@@ -11,7 +11,7 @@ ghost use Rattle.dpl_elements.specs.Wholes.{whole_turn};
 
 use crate::whole::WholeTurns;
 use dpl_frame::{DomainWord, Frame};
-use dpl_loop::Stop;
+use dpl_loop::RunStop;
 use dpl_map::Map;
 use dpl_values::Team;
 
@@ -30,7 +30,7 @@ pub trait Crew: Team {
         over: DomainWord,
         map: &Map,
         frame: &mut Frame<Self::Kept>,
-    ) -> Result<(), Stop>
+    ) -> Result<(), RunStop>
         requires ready { Self.is_ready self.now }
         ensures ends { (done : Deeds) → RunsTo (MayRefuse (Self.may_refuse self.now) map.now over) result frame.new.memory done
             (in_order (named_turn (whole_turn turns.now frame.old.limits)) (indices_in over) frame.old.memory done) }

@@ -22,7 +22,7 @@ ghost use Rattle.dpl_elements.specs.Changes.{signed, if_there, put_memory};
 
 use dpl_domain::Index;
 use dpl_frame::{Alarm, Arrays, FaultCode, Frame, Trap, Turn};
-use dpl_loop::Stop;
+use dpl_loop::RunStop;
 use dpl_loop::stop::told as ended;
 use dpl_nodes::{ArrayName, BoolExpr, IndexExpr, IntExpr, Spot};
 use dpl_strips::number::{difference, product, quotient, remainder, sum};
@@ -104,7 +104,7 @@ fn combine<A: Arrays>(
     index: Index,
     value: i64,
     frame: &mut Frame<A>,
-) -> Result<(), Stop>
+) -> Result<(), RunStop>
     ensures ends { (done : Deeds) → RunEnds result frame.new.memory done
         (change frame.old.limits in_memory (array_leaf IntKind name.now) (signed op sign.now) index (Int value) frame.old.memory done) }
     ensures limits { frame.new.limits ≡ frame.old.limits }
@@ -130,7 +130,7 @@ pub(crate) fn change<A: Arrays>(
     index: Index,
     value: i64,
     frame: &mut Frame<A>,
-) -> Result<(), Stop>
+) -> Result<(), RunStop>
     ensures ends { (done : Deeds) → RunEnds result frame.new.memory done
         (change frame.old.limits in_memory (array_leaf IntKind name.now) (signed op sign.now) index (Int value) frame.old.memory done) }
     ensures limits { frame.new.limits ≡ frame.old.limits }
@@ -151,7 +151,7 @@ pub(crate) fn change_truth<A: Arrays>(
     index: Index,
     value: bool,
     frame: &mut Frame<A>,
-) -> Result<(), Stop>
+) -> Result<(), RunStop>
     ensures ends { (at : Place) (done : Deeds) → RunEnds result frame.new.memory done
         (change frame.old.limits in_memory (array_leaf BoolKind name.now) (signed Set at) index (Truth value) frame.old.memory done) }
     ensures limits { frame.new.limits ≡ frame.old.limits }
@@ -223,7 +223,7 @@ fn put_at<G: Team>(
     word: i64,
     frame: &mut Frame<G::Kept>,
     gate: &G,
-) -> Result<(), Stop>
+) -> Result<(), RunStop>
     requires ready { G.is_ready gate.now }
     ensures ends { Gives (MayRefuseSome (G.may_refuse gate.now)) (λ v. frame.new.memory) result
         (with_ok (values_of frame.old.limits in_memory (index_exprs t.now) frame.old.memory)
@@ -233,7 +233,7 @@ fn put_at<G: Team>(
     let mut turn = Turn::Absent;
     match put_word(name, t, word, frame, gate, &mut turn) {
         Ok(()) => Ok(()),
-        Err(alarm) => Err(Stop::of(alarm, &turn)),
+        Err(alarm) => Err(RunStop::of(alarm, &turn)),
     }
 }
 
@@ -250,7 +250,7 @@ pub fn set_element<G: Team>(
     e: &IntExpr<'_>,
     frame: &mut Frame<G::Kept>,
     gate: &G,
-) -> Result<(), Stop>
+) -> Result<(), RunStop>
     requires ready { G.is_ready gate.now }
     ensures ends { (done : Deeds)
         → RunsTo (MayRefuseSome (G.may_refuse gate.now)) result frame.new.memory done
@@ -276,7 +276,7 @@ pub fn set_truth_element<G: Team>(
     e: &BoolExpr<'_>,
     frame: &mut Frame<G::Kept>,
     gate: &G,
-) -> Result<(), Stop>
+) -> Result<(), RunStop>
     requires ready { G.is_ready gate.now }
     ensures ends { (done : Deeds)
         → RunsTo (MayRefuseSome (G.may_refuse gate.now)) result frame.new.memory done

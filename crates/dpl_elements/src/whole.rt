@@ -31,7 +31,7 @@ use crate::row::put_row;
 use dpl_dependence::{int_reads_own, truth_reads_own};
 use dpl_domain::Index;
 use dpl_frame::{Arrays, DomainWord, Frame};
-use dpl_loop::{Apart, OpenGate, Row, Stop, Turns};
+use dpl_loop::{Apart, OpenGate, Row, RunStop, Turns};
 use dpl_nodes::{ArrayName, PromotedInt, PromotedTruth, Spot};
 use dpl_strips::index::coordinate;
 use dpl_strips::{promoted_strip, repeated};
@@ -54,7 +54,7 @@ impl<'e> Turns for Fill<'e> {
     ghost turn = { λ c limits t. change limits in_memory (array_leaf IntKind c.name.now) (signed c.op c.sign.now) t (Int c.value) };
 
     #[inline(always)]
-    fn make<A: Arrays>(&self, index: Index, frame: &mut Frame<A>) -> Result<(), Stop> {
+    fn make<A: Arrays>(&self, index: Index, frame: &mut Frame<A>) -> Result<(), RunStop> {
         change(self.name, self.op, self.sign, index, self.value, frame)
     }
 
@@ -84,7 +84,7 @@ impl<'e, 'x> Turns for Promote<'e, 'x> {
         (change limits in_memory (array_leaf IntKind c.name.now) (signed c.op c.sign.now) t) s done };
 
     #[inline(always)]
-    fn make<A: Arrays>(&self, index: Index, frame: &mut Frame<A>) -> Result<(), Stop> {
+    fn make<A: Arrays>(&self, index: Index, frame: &mut Frame<A>) -> Result<(), RunStop> {
         let value = promoted_int_value(self.e, &index, frame, &Alone::at(&OpenGate))?;
         change(self.name, self.op, self.sign, index, value, frame)
     }
@@ -116,7 +116,7 @@ impl<'e> Turns for FillTruth<'e> {
     ghost turn = { λ c limits t. change limits in_memory (array_leaf BoolKind c.name.now) (signed Set c.sign.now) t (Truth c.value) };
 
     #[inline(always)]
-    fn make<A: Arrays>(&self, index: Index, frame: &mut Frame<A>) -> Result<(), Stop> {
+    fn make<A: Arrays>(&self, index: Index, frame: &mut Frame<A>) -> Result<(), RunStop> {
         change_truth(self.name, index, self.value, frame)
     }
 
@@ -140,7 +140,7 @@ impl<'e, 'x> Turns for PromoteTruth<'e, 'x> {
         (change limits in_memory (array_leaf BoolKind c.name.now) (signed Set c.sign.now) t) s done };
 
     #[inline(always)]
-    fn make<A: Arrays>(&self, index: Index, frame: &mut Frame<A>) -> Result<(), Stop> {
+    fn make<A: Arrays>(&self, index: Index, frame: &mut Frame<A>) -> Result<(), RunStop> {
         let value = promoted_truth_value(self.e, &index, frame, &Alone::at(&OpenGate))?.get();
         change_truth(self.name, index, value, frame)
     }
@@ -166,7 +166,7 @@ impl<'e, 'x> Turns for WholeTurns<'e, 'x> {
     ghost turn = { whole_turn };
 
     #[inline(always)]
-    fn make<A: Arrays>(&self, index: Index, frame: &mut Frame<A>) -> Result<(), Stop> {
+    fn make<A: Arrays>(&self, index: Index, frame: &mut Frame<A>) -> Result<(), RunStop> {
         match self {
             WholeTurns::Fill(turns) => turns.make(index, frame),
             WholeTurns::Promote(turns) => turns.make(index, frame),
@@ -202,7 +202,7 @@ fn each_within<C: Crew>(
     domain: DomainWord,
     frame: &mut Frame<C::Kept>,
     crew: &C,
-) -> Result<(), Stop>
+) -> Result<(), RunStop>
     requires ready { C.is_ready crew.now }
     ensures ends { (done : Deeds) → RunsTo (MayRefuse (C.may_refuse crew.now) (owned_by frame.old name.now.slot) domain) result frame.new.memory done
         (within_budget frame.old.limits at.now domain (named_turn (whole_turn turns.now frame.old.limits)) frame.old.memory done) }
@@ -222,7 +222,7 @@ fn set_once<C: Crew>(
     domain: DomainWord,
     frame: &mut Frame<C::Kept>,
     crew: &C,
-) -> Result<(), Stop>
+) -> Result<(), RunStop>
     requires ready { C.is_ready crew.now }
     requires once { whole_in frame.old.limits in_memory (promoted_int EachTurn e.now) frame.old.memory ≡ None }
     ensures ends { (done : Deeds)
@@ -251,7 +251,7 @@ fn set_truth_once<C: Crew>(
     domain: DomainWord,
     frame: &mut Frame<C::Kept>,
     crew: &C,
-) -> Result<(), Stop>
+) -> Result<(), RunStop>
     requires ready { C.is_ready crew.now }
     requires once { whole_in frame.old.limits in_memory (promoted_truth EachTurn e.now) frame.old.memory ≡ None }
     ensures ends { (done : Deeds)
@@ -280,7 +280,7 @@ fn set_each<C: Crew>(
     domain: DomainWord,
     frame: &mut Frame<C::Kept>,
     crew: &C,
-) -> Result<(), Stop>
+) -> Result<(), RunStop>
     requires ready { C.is_ready crew.now }
     ensures ends { (arrays : List TextRange) (done : Deeds)
         → RunsTo (MayRefuse (C.may_refuse crew.now) (owned_by frame.old name.now.slot) domain) result frame.new.memory done
@@ -306,7 +306,7 @@ fn set_truth_each<C: Crew>(
     domain: DomainWord,
     frame: &mut Frame<C::Kept>,
     crew: &C,
-) -> Result<(), Stop>
+) -> Result<(), RunStop>
     requires ready { C.is_ready crew.now }
     ensures ends { (arrays : List TextRange) (done : Deeds)
         → RunsTo (MayRefuse (C.may_refuse crew.now) (owned_by frame.old name.now.slot) domain) result frame.new.memory done
@@ -337,7 +337,7 @@ pub fn set_array<C: Crew>(
     e: &PromotedInt<'_>,
     frame: &mut Frame<C::Kept>,
     crew: &C,
-) -> Result<(), Stop>
+) -> Result<(), RunStop>
     requires ready { C.is_ready crew.now }
     ensures ends { (done : Deeds) → RunsTo (MayRefuseWhole (C.may_refuse crew.now) frame.old name.now.slot (EachInInts e.now)) result frame.new.memory done
         (exec frame.old.limits in_memory (whole_set (array_leaf IntKind name.now) op sign.now (promoted_int EachTurn e.now)) frame.old.memory done) }
@@ -361,7 +361,7 @@ pub fn set_truth_array<C: Crew>(
     e: &PromotedTruth<'_>,
     frame: &mut Frame<C::Kept>,
     crew: &C,
-) -> Result<(), Stop>
+) -> Result<(), RunStop>
     requires ready { C.is_ready crew.now }
     ensures ends { (done : Deeds) → RunsTo (MayRefuseWhole (C.may_refuse crew.now) frame.old name.now.slot (EachInTruths e.now)) result frame.new.memory done
         (exec frame.old.limits in_memory (whole_set (array_leaf BoolKind name.now) Set sign.now (promoted_truth EachTurn e.now)) frame.old.memory done) }

@@ -22,7 +22,7 @@ use Rattle.dpl_language.specs.Statements.{exec_all}
 use Rattle.dpl_language.specs.Program.{first_state, deeds_of}
 use Rattle.dpl_rules.specs.Types.{Origin, same_origin}
 use Rattle.dpl_rules.specs.Bodies.{is_in, written_arrays}
-use Rattle.dpl_rules.specs.Foralls.{ForallIn, turns_in, deeds_in, all_foralls}
+use Rattle.dpl_rules.specs.Foralls.{ForallIn, scope_in, deeds_in, all_foralls}
 use Rattle.dpl_rules.specs.Shifts.{Shift, shifted_reads}
 use Rattle.dpl_rules.specs.Breaches.{same_place, top}
 
@@ -65,8 +65,8 @@ module _ (layout : LayoutValue) (l : LoopRun) where
 
   abbrev pub forall_count : ForallIn → ℕ
   forall_count f =
-      sum_by (array_count (turns_map (written_arrays (turns_in f) (deeds_in f)) (derived_item f.over)) (shifted_reads (turns_in f) (deeds_in f)))
-      (arrays_read (shifted_reads (turns_in f) (deeds_in f)))
+      sum_by (array_count (turns_map (written_arrays (scope_in f) (deeds_in f)) (derived_item f.over)) (shifted_reads (scope_in f) (deeds_in f)))
+      (arrays_read (shifted_reads (scope_in f) (deeds_in f)))
 
   -- the forall that stands at the place
   abbrev pub count_among : List ForallIn → ℕ

@@ -13,7 +13,7 @@ use Rattle.dpl_map.specs.Parts.{part}
 use Rattle.dpl_language.specs.Tree.{Op}
 use Rattle.dpl_language.specs.Values.{Index, Fault, InTurn}
 use Rattle.dpl_language.specs.Environment.{Limits}
-use Rattle.dpl_language.specs.Outcome.{Deeds, no_deeds, Outcome, Done, Stop as StopAt, Run, in_order}
+use Rattle.dpl_language.specs.Outcome.{Deeds, no_deeds, Outcome, Done, Stop, Run, in_order}
 use Rattle.dpl_language.specs.Loops.{named_turn}
 use Rattle.dpl_memory.specs.Memory.{Held, Memory}
 use Rattle.dpl_apart.specs.Operands.{combined_words, AreExact}
@@ -30,8 +30,8 @@ use Rattle.dpl_apart.proofs.Workers.{share-stopped, workers-done, workers-stoppe
 use Rattle.dpl_frame.specs.Faults.{fault_view, turn_view}
 use Rattle.dpl_frame.specs.Frames.{Framed, with_memory}
 use Rattle.dpl_frame.specs.Shares.{Plain, plain_of, with_plain}
-use Rattle.dpl_loop.specs.declared.stop.Stop.{Stop}
-use Rattle.dpl_loop.specs.declared.stop.Stop.TheVariants as stop
+use Rattle.dpl_loop.specs.declared.stop.RunStop.{RunStop}
+use Rattle.dpl_loop.specs.declared.stop.RunStop.TheVariants as stop
 use Rattle.dpl_loop.specs.declared.job.Job.{Job}
 use Rattle.dpl_loop.specs.declared.job.Worked.{Worked}
 use Rattle.dpl_loop.specs.declared.taken.Taken.{Taken}
@@ -62,7 +62,7 @@ words-none l (w ∷ ws) q none = by (l == w.locale) refl none (words-none l ws q
       ap (λ c. words_by l ws (if c then w.words else q)) other ∙ rest none
 
 -- how a worker ended, with the memory that it left
-abbrev end_of : Result (Unit {0}) Stop → Memory → Result Memory Fault
+abbrev end_of : Result (Unit {0}) RunStop → Memory → Result Memory Fault
 end_of (Ok v) u = Ok u
 end_of (Err (stop.Fault f)) u = Err (fault_view f)
 end_of (Err stop.Memory) u = Ok u
@@ -156,7 +156,7 @@ module _ (may : Type 0) (h : Changes) (turn : Index → Run Memory) (whole : Lis
       (λ i. Some ((same i).locale, end_of (end i) all.0.after))
   told-at (v ∷ ws) all (suc k) w f at is = told-at ws all.1 k w f at is
 
-  ends-told : (ts : List Index) (e : Result (Unit {0}) Stop) (u : Memory) (o : Deeds → Outcome Memory) → ((done : Deeds) → RunsTo may e u done (o done)) → EndsFrom ts 3 e → (done : Deeds) → o done ≡ worker_end (end_of e u) done
+  ends-told : (ts : List Index) (e : Result (Unit {0}) RunStop) (u : Memory) (o : Deeds → Outcome Memory) → ((done : Deeds) → RunsTo may e u done (o done)) → EndsFrom ts 3 e → (done : Deeds) → o done ≡ worker_end (end_of e u) done
   ends-told ts (Ok v) u o runs from done = runs done
   ends-told ts (Err (stop.Fault f)) u o runs from done = runs done
   ends-told ts (Err stop.Memory) u o runs from done = absurd (omega (arith, from))
@@ -171,7 +171,7 @@ module _ (may : Type 0) (h : Changes) (turn : Index → Run Memory) (whole : Lis
   all-told ts n past (w ∷ ws) all from =
       (ends-told ts w.end all.0.after (λ done. in_order (named_turn turn) (part whole axes w.locale) (worker_memory h (owner axes) w.locale m) done) all.0.ends (past-all w.end from.0), all-told ts n past ws all.1 from.1)
     where
-      past-all : (e : Result (Unit {0}) Stop) → EndsFrom ts n e → EndsFrom ts 3 e
+      past-all : (e : Result (Unit {0}) RunStop) → EndsFrom ts n e → EndsFrom ts 3 e
       past-all (Ok v) from = tt
       past-all (Err h) from = omega (arith, past, from)
 
@@ -179,7 +179,7 @@ module _ (may : Type 0) (h : Changes) (turn : Index → Run Memory) (whole : Lis
       → AllByRecursion (λ (v : ℕ × Result Memory Fault). (g : Fault) (s : Index) → v.1 ≡ Err g → g.turn ≡ InTurn s → place ≤ place_in ts s) (told ws all)
   all-from ts place [] all from = tt
   all-from ts place (w ∷ ws) all from = (its w.end from.0, all-from ts place ws all.1 from.1) where
-    its : (e : Result (Unit {0}) Stop) → EndsFrom ts (3 + place) e → (g : Fault) (s : Index) → end_of e all.0.after ≡ Err g → g.turn ≡ InTurn s → place ≤ place_in ts s
+    its : (e : Result (Unit {0}) RunStop) → EndsFrom ts (3 + place) e → (g : Fault) (s : Index) → end_of e all.0.after ≡ Err g → g.turn ≡ InTurn s → place ≤ place_in ts s
     its (Ok v) from g s is turn_of = absurd cc
     its (Err (stop.Fault f)) from g s is turn_of =
         let same : fault_view f ≡ g = cc in
@@ -249,7 +249,7 @@ module _ (may : Type 0) (h : Changes) (turn : Index → Run Memory) (whole : Lis
         (ap (λ ts. given_back ts ws e) is ∙ given ∙ ap (λ (x : Memory). record x { arrays = rejoined_from 0 h.written (owner axes) us m m.arrays }) kept)
 
     -- or the fault of one of them stands first
-    fault-first : (f : _) → IsSoonest (indices whole) ws (Err (stop.Fault f)) → (done : Deeds) → in_order (named_turn turn) (indices whole) m done ≡ StopAt (fault_view f) done
+    fault-first : (f : _) → IsSoonest (indices whole) ws (Err (stop.Fault f)) → (done : Deeds) → in_order (named_turn turn) (indices whole) m done ≡ Stop (fault_view f) done
     unfolding part
     fault-first f soonest done =
         let ts = indices whole in
@@ -268,7 +268,7 @@ module _ (may : Type 0) (h : Changes) (turn : Index → Run Memory) (whole : Lis
         (All-from_recursion IsTold ts_told ends) k w.locale (fault_view f) its.index at its.turn_of
         (All-from_recursion _ ts_told (all-from ts (place_in ts its.index) ws made.each (subst (λ n. AllByRecursion (λ (w : Worked). EndsFrom ts n w.end) ws) spot soonest.1))) done
 
-    pub made-ends : (r : Stop) → IsSoonest (indices whole) ws (Err r) → (s : Memory) (done : Deeds) → RunsTo may (Err r) s done (in_order (named_turn turn) (indices whole) m done)
+    pub made-ends : (r : RunStop) → IsSoonest (indices whole) ws (Err r) → (s : Memory) (done : Deeds) → RunsTo may (Err r) s done (in_order (named_turn turn) (indices whole) m done)
     made-ends (stop.Fault f) soonest s done = fault-first f soonest done
     made-ends stop.Memory soonest s done = tt
     made-ends stop.Thread soonest s done = tt

@@ -7,7 +7,7 @@ use Rattle.dpl_language.specs.Values.{Index}
 use Rattle.dpl_language.specs.Outcome.{Deeds, Done, Run, then_do, in_order, naming}
 use Rattle.dpl_language.specs.Loops.{named_turn}
 use Rattle.dpl_memory.specs.Memory.{Memory}
-use Rattle.dpl_loop.specs.declared.stop.Stop.{Stop}
+use Rattle.dpl_loop.specs.declared.stop.RunStop.{RunStop}
 use Rattle.dpl_loop.specs.Runs.{AreDone, RunsTo}
 use Rattle.dpl_loop.proofs.Ends.{then_do-halts, halts-alike}
 
@@ -18,7 +18,7 @@ module _ (turn : Index → Run Memory) (ts : List Index) (k : ℕ) (t : Index) (
   pub order-done : turn t s done ≡ Done next after → in_order turn (drop (k + 1) ts) next after ≡ in_order turn (drop k ts) s done
   order-done e = sym (order-at ∙ ap (λ o. then_do o (in_order turn (drop (k + 1) ts))) e)
 
-  pub order-halts : (may : Type 0) (h : Stop) → RunsTo may (Err h) next after (turn t s done) → RunsTo may (Err h) next after (in_order turn (drop k ts) s done)
+  pub order-halts : (may : Type 0) (h : RunStop) → RunsTo may (Err h) next after (turn t s done) → RunsTo may (Err h) next after (in_order turn (drop k ts) s done)
   order-halts may h e =
       halts-alike may h next next after (then_do (turn t s done) (in_order turn (drop (k + 1) ts))) (in_order turn (drop k ts) s done) order-at
       (then_do-halts may h next next after (turn t s done) (in_order turn (drop (k + 1) ts)) e)

@@ -14,7 +14,7 @@ use Rattle.dpl_apart.proofs.Indices.{same_index-refl, same_index-sound}
 use Rattle.dpl_frame.specs.declared.fault.Turn.{Turn}
 use Rattle.dpl_frame.specs.declared.fault.Turn.TheVariants as turn
 use Rattle.dpl_frame.specs.Faults.{turn_view}
-use Rattle.dpl_loop.specs.declared.stop.Stop.{Stop}
+use Rattle.dpl_loop.specs.declared.stop.RunStop.{RunStop}
 use Rattle.dpl_loop.specs.declared.job.Worked.{Worked}
 use Rattle.dpl_frame.specs.Shares.{Plain}
 use Rattle.dpl_loop.specs.Joined.{word_left, words_left, words_behind, words_by}
@@ -98,7 +98,7 @@ place-within t (x ∷ xs) = by (same_index t x) (place-within t xs) where
   by false rest = omega (arith, rest)
 
 -- ---- the soonest of several ends
-ends-later : (ts : List Index) (n k : ℕ) (e : Result (Unit {0}) Stop) → k ≤ n → EndsFrom ts n e → EndsFrom ts k e
+ends-later : (ts : List Index) (n k : ℕ) (e : Result (Unit {0}) RunStop) → k ≤ n → EndsFrom ts n e → EndsFrom ts k e
 ends-later ts n k (Ok v) less from = tt
 ends-later ts n k (Err h) less from = omega (arith, less, from)
 
@@ -110,13 +110,13 @@ all-well : (ts : List Index) (n : ℕ) (ws : List Worked) → AllByRecursion (λ
 all-well ts n [] all = tt
 all-well ts n (w ∷ ws) all = (subst (EndsFrom ts n) (sym all.0) tt, all-well ts n ws all.1)
 
-pub soonest-next : (ts : List Index) (w : Worked) (ws : List Worked) (behind : Result (Unit {0}) Stop) → IsSoonest ts ws behind → IsSoonest ts (w ∷ ws) (sooner_in ts w.end behind)
+pub soonest-next : (ts : List Index) (w : Worked) (ws : List Worked) (behind : Result (Unit {0}) RunStop) → IsSoonest ts ws behind → IsSoonest ts (w ∷ ws) (sooner_in ts w.end behind)
 soonest-next ts w ws behind soonest = by w.end refl behind soonest where
-  at-first : (h : Stop) → w.end ≡ Err h → (n : ℕ) → n ≡ rank_in ts h → AllByRecursion (λ (w : Worked). EndsFrom ts n w.end) ws → IsSoonest ts (w ∷ ws) (Err h)
+  at-first : (h : RunStop) → w.end ≡ Err h → (n : ℕ) → n ≡ rank_in ts h → AllByRecursion (λ (w : Worked). EndsFrom ts n w.end) ws → IsSoonest ts (w ∷ ws) (Err h)
   at-first h is n e all =
       ((0, w, refl, is), (subst (EndsFrom ts (rank_in ts h)) (sym is) (omega arith), subst (λ n. AllByRecursion (λ (w : Worked). EndsFrom ts n w.end) ws) e all))
 
-  by : (end : Result (Unit {0}) Stop) → w.end ≡ end → (behind : Result (Unit {0}) Stop) → IsSoonest ts ws behind → IsSoonest ts (w ∷ ws) (sooner_in ts end behind)
+  by : (end : Result (Unit {0}) RunStop) → w.end ≡ end → (behind : Result (Unit {0}) RunStop) → IsSoonest ts ws behind → IsSoonest ts (w ∷ ws) (sooner_in ts end behind)
   by (Ok v) is (Ok u) soonest = (is, soonest)
   by (Ok v) is (Err i) soonest = ((suc soonest.0.0, soonest.0.1, soonest.0.2, soonest.0.3), (subst (EndsFrom ts (rank_in ts i)) (sym is) tt, soonest.1))
   by (Err h) is (Ok u) soonest = at-first h is (rank_in ts h) refl (all-well ts (rank_in ts h) ws soonest)

@@ -11,13 +11,13 @@ use Rattle.std.specs.Borrow.{MutBor}
 use Rattle.dpl_language.specs.Values.{Value, Index, Fault}
 use Rattle.dpl_frame.specs.declared.fault.Turn.{Turn}
 use Rattle.dpl_frame.specs.Faults.{Halt, Refused, Tells, fault_view}
-use Rattle.dpl_loop.specs.declared.stop.Stop.{Stop}
-use Rattle.dpl_loop.specs.declared.stop.Stop.TheVariants as stop
+use Rattle.dpl_loop.specs.declared.stop.RunStop.{RunStop}
+use Rattle.dpl_loop.specs.declared.stop.RunStop.TheVariants as stop
 use Rattle.dpl_loop.specs.declared.ended.Ended.{Ended}
 use Rattle.dpl_loop.specs.Folds.{in_turns, AreOperands, FoldHalts, FoldEnds}
 
 -- the value itself, or its fault; or an entry was refused, which may be. Where memory ran out nothing is said; no want of a thread is told.
-abbrev pub Gives : {A B : Type 0} → Type 0 → (A → B) → Result A Stop → Result B Fault → Type 0
+abbrev pub Gives : {A B : Type 0} → Type 0 → (A → B) → Result A RunStop → Result B Fault → Type 0
 Gives may value (Ok a) v = v ≡ Ok (value a)
 Gives may value (Err (stop.Fault f)) v = v ≡ Err (fault_view f)
 Gives may value (Err stop.Memory) v = Unit {0}

@@ -6,8 +6,8 @@ use Rattle.dpl_language.specs.Outcome.{Deeds, Run, in_order}
 use Rattle.dpl_language.specs.Environment.{Limits}
 use Rattle.dpl_memory.specs.Memory.{Held, Memory}
 use Rattle.dpl_frame.specs.Shares.{own_before, plain_of}
-use Rattle.dpl_loop.specs.declared.stop.Stop.{Stop}
-use Rattle.dpl_loop.specs.declared.stop.Stop.TheVariants as stop
+use Rattle.dpl_loop.specs.declared.stop.RunStop.{RunStop}
+use Rattle.dpl_loop.specs.declared.stop.RunStop.TheVariants as stop
 use Rattle.dpl_loop.specs.declared.job.Job.{Job}
 use Rattle.dpl_loop.specs.declared.job.Worked.{Worked}
 use Rattle.dpl_loop.specs.Runs.{RunsTo}
@@ -30,7 +30,7 @@ HaveDone may turn (j ∷ js) (w ∷ ws) = HasDone may turn j w × HaveDone may t
 HaveDone may turn _ _ = ⊥
 
 -- workers were not made: memory ran out, or no thread could be started
-abbrev pub IsUnmade : Stop → Type 0
+abbrev pub IsUnmade : RunStop → Type 0
 IsUnmade (stop.Fault f) = ⊥
 IsUnmade stop.Memory = Unit {0}
 IsUnmade stop.Thread = Unit {0}

@@ -1,6 +1,6 @@
 // What a worker of a forall begins with, and what it hands back when its turns are over. What it hands back has no lifetime.
 
-use crate::stop::Stop;
+use crate::stop::RunStop;
 use dpl_domain::Domain;
 use dpl_frame::{Frame, PlainWords, Share, Shares};
 
@@ -18,5 +18,5 @@ pub(crate) struct Worked {
     pub(crate) locale: u32,
     pub(crate) words: PlainWords,
     pub(crate) own: Vec<Share>,
-    pub(crate) end: Result<(), Stop>,
+    pub(crate) end: Result<(), RunStop>,
 }

@@ -11,7 +11,7 @@ use crate::gate::Gate;
 use crate::job::{Job, Worked};
 use crate::loops::turns_of;
 use crate::part::PartGate;
-use crate::stop::Stop;
+use crate::stop::RunStop;
 use crate::turns::Turns;
 use dpl_domain::Domain;
 use dpl_frame::{Frame, Shares};
@@ -84,7 +84,7 @@ fn start_all<'s, E, T: Turns + Sync, G: Gate + Sync, R: Threads + Sync>(
     site: &'s Site<'s, T, G>,
     mut jobs: Vec<Job<'s>>,
     done: Vec<Worked>,
-) -> Result<Vec<Worked>, Stop>
+) -> Result<Vec<Worked>, RunStop>
     requires { done.items ≡ [] }
     ensures done { IfOk result (λ ws. HaveDone (MayRefuseAmong (G.may_refuse site.now.gate.now) site.now.map.now (indices site.now.whole.now))
         (λ limits. named_turn (T.turn site.now.turns.now limits)) jobs.entry.items ws.items) }
@@ -110,7 +110,7 @@ fn start_all<'s, E, T: Turns + Sync, G: Gate + Sync, R: Threads + Sync>(
             (named_turn (T.turn site.entry.now.turns.now frame.entry.limits)) (indices part.entry.now) frame.entry.memory result }
     { work(site, locale, part, frame) };
     let Ok(handle) = scope.spawn_with(promise, task) else {
-        return Err(Stop::Thread);
+        return Err(RunStop::Thread);
     };
     let below = start_all(rt, scope, site, jobs, done);
     let worked = handle.join(rt);
@@ -120,7 +120,7 @@ fn start_all<'s, E, T: Turns + Sync, G: Gate + Sync, R: Threads + Sync>(
             Ok(done)
         }
         Err(stop) => match worked.end {
-            Err(Stop::Memory) => Err(Stop::Memory),
+            Err(RunStop::Memory) => Err(RunStop::Memory),
             _ => Err(stop),
         },
     }
@@ -135,7 +135,7 @@ pub(crate) fn work_all<'a, T: Turns + Sync, G: Gate + Sync, R: Threads + Wait + 
     site: &'a Site<'a, T, G>,
     jobs: Vec<Job<'a>>,
     done: Vec<Worked>,
-) -> Result<Vec<Worked>, Stop>
+) -> Result<Vec<Worked>, RunStop>
     requires { done.items ≡ [] }
     ensures done { IfOk result (λ ws. HaveDone (MayRefuseAmong (G.may_refuse site.now.gate.now) site.now.map.now (indices site.now.whole.now))
         (λ limits. named_turn (T.turn site.now.turns.now limits)) jobs.entry.items ws.items) }
@@ -144,7 +144,7 @@ pub(crate) fn work_all<'a, T: Turns + Sync, G: Gate + Sync, R: Threads + Wait + 
     thread::scope(
         thread::scope_env(),
         rt,
-        move |scope| -> Result<Vec<Worked>, Stop>
+        move |scope| -> Result<Vec<Worked>, RunStop>
             requires { done.items ≡ [] }
             ensures done { IfOk result (λ ws. HaveDone (MayRefuseAmong (G.may_refuse site.entry.now.gate.now) site.entry.now.map.now
                 (indices site.entry.now.whole.now)) (λ limits. named_turn (T.turn site.entry.now.turns.now limits)) jobs.entry.items ws.items) }

@@ -47,7 +47,7 @@ pub use loops::{forall_here, forall_line};
 pub use meeting::Meeting;
 pub use plan::forall;
 pub use reduction::{Operator, reduce};
-pub use stop::Stop;
+pub use stop::RunStop;
 pub use strip::{STRIP, Strip};
 pub use strips::reduce_ints;
 pub use turns::Turns;

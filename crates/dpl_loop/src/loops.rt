@@ -14,7 +14,7 @@ ghost use Rattle.dpl_loop.specs.Values.{MayRefuseAmong};
 
 use crate::gate::{Gate, enters};
 use crate::rows::Places;
-use crate::stop::Stop;
+use crate::stop::RunStop;
 use crate::together::{begun, together};
 use crate::turns::Turns;
 use dpl_contents::{DomainWord, RangeWord};
@@ -31,13 +31,13 @@ pub(crate) fn entered<A: Arrays, T: Turns, G: Gate>(
     map: &Map,
     frame: &mut Frame<A>,
     gate: &G,
-) -> Result<(), Stop>
+) -> Result<(), RunStop>
     ensures ends { (done : Deeds) → RunsTo (G.may_refuse gate.now (owner map.now index) place) result frame.new.memory done
         (named_turn (T.turn turns.now frame.old.limits) index frame.old.memory done) }
     ensures limits { frame.new.limits ≡ frame.old.limits }
 {
     if !enters(gate, map, index, place) {
-        return Err(Stop::Gate);
+        return Err(RunStop::Gate);
     }
     match turns.make(index, frame) {
         Ok(()) => Ok(()),
@@ -56,7 +56,7 @@ pub(crate) fn turns_of<A: Arrays, T: Turns, G: Gate>(
     map: &Map,
     frame: &mut Frame<A>,
     gate: &G,
-) -> Result<(), Stop>
+) -> Result<(), RunStop>
     ensures ends { (done : Deeds) → RunsTo (MayRefuseAmong (G.may_refuse gate.now) map.now (indices domain.now)) result frame.new.memory done
         (in_order (named_turn (T.turn turns.now frame.old.limits)) (indices domain.now) frame.old.memory done) }
     ensures limits { frame.new.limits ≡ frame.old.limits }
@@ -86,7 +86,7 @@ pub fn forall_here<A: Arrays, T: Turns, G: Gate>(
     map: &Map,
     frame: &mut Frame<A>,
     gate: &G,
-) -> Result<(), Stop>
+) -> Result<(), RunStop>
     ensures ends { (done : Deeds) → RunsTo (MayRefuse (G.may_refuse gate.now) map.now over) result frame.new.memory done
         (in_order (named_turn (T.turn turns.now frame.old.limits)) (indices_in over) frame.old.memory done) }
     ensures limits { frame.new.limits ≡ frame.old.limits }
@@ -105,7 +105,7 @@ pub fn forall_line<A: Arrays, T: Turns, G: Gate>(
     map: &Map,
     frame: &mut Frame<A>,
     gate: &G,
-) -> Result<(), Stop>
+) -> Result<(), RunStop>
     ensures ends { (done : Deeds) → RunsTo (MayRefuse (G.may_refuse gate.now) map.now (range_word over.now ∷ [])) result frame.new.memory done
         (in_order (named_turn (T.turn turns.now frame.old.limits)) (indices_in (range_word over.now ∷ [])) frame.old.memory done) }
     ensures limits { frame.new.limits ≡ frame.old.limits }

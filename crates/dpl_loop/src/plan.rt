@@ -31,7 +31,7 @@ use crate::level::{Site, work_all};
 use crate::loops::turns_of;
 use crate::parts::sole_parts;
 use crate::soonest::ended;
-use crate::stop::Stop;
+use crate::stop::RunStop;
 use crate::taken::{Taken, are_dealt_by, take_all};
 use crate::turns::Turns;
 use dpl_contents::DomainWord;
@@ -93,7 +93,7 @@ fn made<T: Turns + Sync, G: Gate + Sync, R: Threads + Wait + Sync>(
     plan: &Plan<'_>,
     taken: &mut Vec<Taken>,
     frame: &Frame<Slots>,
-) -> Result<Vec<Worked>, Stop>
+) -> Result<Vec<Worked>, RunStop>
     ensures made { IfOk result (λ ws. (m : Memory) → IsPlan (T.turn site.now.turns.now) site.now.whole.now site.now.map.now m plan.now
         → AreTaken site.now.map.now plan.now.apart.written m taken.old.items frame.now.memory
         → HaveMade (MayRefuseAmong (G.may_refuse site.now.gate.now) site.now.map.now (indices site.now.whole.now))
@@ -153,7 +153,7 @@ fn by_workers<T: Turns + Sync, G: Gate + Sync, R: Threads + Wait + Sync>(
     site: &Site<'_, T, G>,
     plan: &Plan<'_>,
     frame: &mut Frame<Slots>,
-) -> Result<(), Stop>
+) -> Result<(), RunStop>
     requires plan { IsPlan (T.turn site.now.turns.now) site.now.whole.now site.now.map.now frame.old.memory plan.now }
     requires ranges { AreRanges site.now.whole.now }
     ensures ends { (done : Deeds) → RunsTo (MayRefuseAmong (G.may_refuse site.now.gate.now) site.now.map.now (indices site.now.whole.now))
@@ -181,7 +181,7 @@ pub fn forall<T: Turns + Sync, G: Gate + Sync, R: Threads + Wait + Sync>(
     map: &Map,
     frame: &mut Frame<Slots>,
     gate: &G,
-) -> Result<(), Stop>
+) -> Result<(), RunStop>
     ensures ends { (done : Deeds) → RunsTo (MayRefuse (G.may_refuse gate.now) map.now over) result frame.new.memory done
         (in_order (named_turn (T.turn turns.now frame.old.limits)) (indices_in over) frame.old.memory done) }
     ensures limits { frame.new.limits ≡ frame.old.limits }

@@ -7,7 +7,7 @@ ghost use Rattle.dpl_frame.specs.Faults.{turn_view};
 ghost use Rattle.dpl_loop.specs.Soonest.{spot_in, rank_in, sooner_in, IsSoonest};
 
 use crate::job::Worked;
-use crate::stop::Stop;
+use crate::stop::RunStop;
 use dpl_domain::Domain;
 use dpl_frame::Turn;
 
@@ -30,19 +30,19 @@ pub(crate) fn spot_of(whole: &Domain, turn: &Turn) -> u64
 }
 
 // Which of several ends is told, the least first.
-fn rank(whole: &Domain, stop: &Stop) -> u64
+fn rank(whole: &Domain, stop: &RunStop) -> u64
     ensures { result ≡ rank_in (indices whole.now) stop.now }
 {
     match stop {
-        Stop::Memory => 0,
-        Stop::Thread => 1,
-        Stop::Gate => 2,
-        Stop::Fault(fault) => 3 + spot_of(whole, &fault.turn),
+        RunStop::Memory => 0,
+        RunStop::Thread => 1,
+        RunStop::Gate => 2,
+        RunStop::Fault(fault) => 3 + spot_of(whole, &fault.turn),
     }
 }
 
 // Of two ends the one that is told. Turns that ended well tell nothing.
-fn sooner(whole: &Domain, one: Result<(), Stop>, other: Result<(), Stop>) -> Result<(), Stop>
+fn sooner(whole: &Domain, one: Result<(), RunStop>, other: Result<(), RunStop>) -> Result<(), RunStop>
     ensures { result ≡ sooner_in (indices whole.now) one other }
 {
     let Err(stop) = one else {
@@ -62,7 +62,7 @@ fn sooner(whole: &Domain, one: Result<(), Stop>, other: Result<(), Stop>) -> Res
 ///
 /// # Errors
 /// What was refused: memory first, then a thread, then an entry by the gate; or else the fault that stands first.
-pub(crate) fn ended(whole: &Domain, worked: &[Worked]) -> Result<(), Stop>
+pub(crate) fn ended(whole: &Domain, worked: &[Worked]) -> Result<(), RunStop>
     ensures { IsSoonest (indices whole.now) worked.now result }
 {
     match worked {

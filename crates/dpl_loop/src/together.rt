@@ -10,7 +10,7 @@ ghost use Rattle.dpl_loop.specs.Values.{MayRefuseAmong};
 use crate::gate::Gate;
 use crate::loops::entered;
 use crate::rows::Places;
-use crate::stop::Stop;
+use crate::stop::RunStop;
 use crate::turns::Turns;
 use dpl_domain::Index;
 use dpl_frame::{Arrays, Frame};
@@ -71,7 +71,7 @@ fn turns_from<A: Arrays, P: Places, T: Turns, G: Gate>(
     map: &Map,
     frame: &mut Frame<A>,
     gate: &G,
-) -> Result<u64, Stop>
+) -> Result<u64, RunStop>
     requires place { place < length (P.indices over.now) }
     requires small { length (P.indices over.now) < 2 ^ 64 }
     ensures next { IfOk result (λ next. (place < next) × (next ≤ length (P.indices over.now))) }
@@ -102,7 +102,7 @@ pub(crate) fn together<A: Arrays, P: Places, T: Turns, G: Gate>(
     map: &Map,
     frame: &mut Frame<A>,
     gate: &G,
-) -> Result<(), Stop>
+) -> Result<(), RunStop>
     requires { first ≤ length (P.indices over.now) }
     ensures ends { (done : Deeds) → RunsTo (MayRefuseAmong (G.may_refuse gate.now) map.now (P.indices over.now)) result frame.new.memory done
         (in_order (named_turn (T.turn turns.now frame.old.limits)) (drop first (P.indices over.now)) frame.old.memory done) }

@@ -9,7 +9,7 @@ ghost use Rattle.dpl_apart.specs.Memories.{MayBeApart};
 ghost use Rattle.dpl_loop.specs.Runs.{AreDone, RunEnds};
 
 use crate::apart::Apart;
-use crate::stop::Stop;
+use crate::stop::RunStop;
 use dpl_array::Row;
 use dpl_domain::Index;
 use dpl_frame::{Arrays, Frame};
@@ -23,7 +23,7 @@ pub trait Turns {
     ///
     /// # Errors
     /// The turn's fault, or out of memory. No gate is asked within a turn.
-    fn make<A: Arrays>(&self, index: Index, frame: &mut Frame<A>) -> Result<(), Stop>
+    fn make<A: Arrays>(&self, index: Index, frame: &mut Frame<A>) -> Result<(), RunStop>
         ensures ends { (done : Deeds) → RunEnds result frame.new.memory done (turn self.now frame.old.limits index frame.old.memory done) }
         ensures limits { frame.new.limits ≡ frame.old.limits };
 

@@ -5,7 +5,7 @@ use Rattle.std.proofs.lemmas.List.{append_assoc, append-nil}
 use Rattle.std.proofs.Math.Seq.{take-append_seam}
 use Rattle.dpl_syntax.proofs.Walks.{drop-at}
 use Rattle.dpl_language.specs.Values.{Fault}
-use Rattle.dpl_language.specs.Outcome.{Deeds, Done, Stop as StopAt, with_ok, with_value, with_text}
+use Rattle.dpl_language.specs.Outcome.{Deeds, Done, Stop, with_ok, with_value, with_text}
 use Rattle.dpl_language.specs.Environment.{Limits}
 use Rattle.dpl_language.specs.Writing.{line_end}
 use Rattle.dpl_language.specs.Statements.{exec}
@@ -13,8 +13,8 @@ use Rattle.dpl_memory.specs.Memory.{Memory, in_memory}
 use Rattle.dpl_nodes.specs.declared.step.Argument.{Argument}
 use Rattle.dpl_nodes.specs.Steps.{written_as}
 use Rattle.dpl_frame.specs.Faults.{fault_view}
-use Rattle.dpl_loop.specs.declared.stop.Stop.{Stop}
-use Rattle.dpl_loop.specs.declared.stop.Stop.TheVariants as stop
+use Rattle.dpl_loop.specs.declared.stop.RunStop.{RunStop}
+use Rattle.dpl_loop.specs.declared.stop.RunStop.TheVariants as stop
 use Rattle.dpl_loop.specs.Runs.{RunsTo}
 use Rattle.dpl_print.specs.Texts.{having_printed}
 use Rattle.dpl_print.specs.Texts.{argument_text, arguments_text, behind, Grew, GrewBy}
@@ -61,7 +61,7 @@ module _ (limits : Limits) where
     grew_more first old new so_far.1 (behind-grew old new (argument_text limits a s) shown),
   )
 
-  pub texts-halt : (may more : Type 0) (xs : List Argument) (k : ℕ) (a : Argument) (s : Memory) (first old new : List ℕ) (h : Stop) → (may → more) → k < length xs → a ≡ get_or xs k a → GrewBy may (Err h) old new (argument_text limits a s)
+  pub texts-halt : (may more : Type 0) (xs : List Argument) (k : ℕ) (a : Argument) (s : Memory) (first old new : List ℕ) (h : RunStop) → (may → more) → k < length xs → a ≡ get_or xs k a → GrewBy may (Err h) old new (argument_text limits a s)
       → (behind old (arguments_text limits (drop k xs) s) ≡ behind first (arguments_text limits xs s)) × Grew first old → GrewBy more (Err h) first new (arguments_text limits xs s)
   texts-halt may more xs k a s first old new (stop.Fault f) wider within is shown so_far = (
     behind-fault first (arguments_text limits xs s) (fault_view f)
@@ -85,12 +85,12 @@ module _ (limits : Limits) where
   written-ends ends_line xs s done old new e =
       exec-written limits ends_line xs s (having_printed old done) ∙ written-value ends_line s done old new (arguments_text limits xs s) e
 
-  pub written-halts : (may : Type 0) (ends_line : Bool) (xs : List Argument) (s : Memory) (done : Deeds) (old new : List ℕ) (h : Stop) → GrewBy may (Err h) old new (arguments_text limits xs s)
+  pub written-halts : (may : Type 0) (ends_line : Bool) (xs : List Argument) (s : Memory) (done : Deeds) (old new : List ℕ) (h : RunStop) → GrewBy may (Err h) old new (arguments_text limits xs s)
       → RunsTo may (Err h) s (having_printed (take (length old) new) done) (exec limits in_memory (written_as ends_line xs) s (having_printed old done))
   written-halts may ends_line xs s done old new (stop.Fault f) e =
       exec-written limits ends_line xs s (having_printed old done)
       ∙ ap (λ r. with_value r (λ text s done. Done s (with_text (text ++ line_end ends_line) done)) s (having_printed old done)) e.0
-      ∙ ap (λ text. StopAt (fault_view f) (having_printed text done)) (sym (ap (take (length old)) e.1.1 ∙ take-append_seam old e.1.0))
+      ∙ ap (λ text. Stop (fault_view f) (having_printed text done)) (sym (ap (take (length old)) e.1.1 ∙ take-append_seam old e.1.0))
   written-halts may ends_line xs s done old new stop.Memory e = tt
   written-halts may ends_line xs s done old new stop.Thread e = tt
   written-halts may ends_line xs s done old new stop.Gate e = e

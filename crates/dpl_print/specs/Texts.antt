@@ -15,8 +15,8 @@ use Rattle.dpl_nodes.specs.declared.step.Argument.{Argument}
 use Rattle.dpl_nodes.specs.declared.step.Argument.TheVariants.{Text, Int, Truth, Array}
 use Rattle.dpl_nodes.specs.Typed.{int_view, truth_view}
 use Rattle.dpl_frame.specs.Faults.{fault_view}
-use Rattle.dpl_loop.specs.declared.stop.Stop.{Stop}
-use Rattle.dpl_loop.specs.declared.stop.Stop.TheVariants as stop
+use Rattle.dpl_loop.specs.declared.stop.RunStop.{RunStop}
+use Rattle.dpl_loop.specs.declared.stop.RunStop.TheVariants as stop
 
 -- an array's elements, in the order of its domain
 abbrev pub array_text : Kind → ℕ → Memory → List ℕ
@@ -45,7 +45,7 @@ abbrev pub Grew : List ℕ → List ℕ → Type 0
 Grew old new = (more : List ℕ) × (new ≡ old ++ more)
 
 -- a text grew by another; there is the fault, and the text grew somehow; or an entry was refused, which may be
-abbrev pub GrewBy : Type 0 → Result (Unit {0}) Stop → List ℕ → List ℕ → Result (List ℕ) Fault → Type 0
+abbrev pub GrewBy : Type 0 → Result (Unit {0}) RunStop → List ℕ → List ℕ → Result (List ℕ) Fault → Type 0
 GrewBy may (Ok v) old new more = behind old more ≡ Ok new
 GrewBy may (Err (stop.Fault f)) old new more = (more ≡ Err (fault_view f)) × Grew old new
 GrewBy may (Err stop.Memory) old new more = Unit {0}

@@ -16,7 +16,7 @@ ghost use Rattle.dpl_print.specs.Texts.{argument_text, arguments_text, GrewBy};
 
 use crate::array_text::show_array;
 use dpl_frame::{Frame, Slots};
-use dpl_loop::Stop;
+use dpl_loop::RunStop;
 use dpl_nodes::Argument;
 use dpl_values::{Team, int_value, truth_value};
 use itoa::Buffer;
@@ -38,7 +38,7 @@ fn show<G: Team<Kept = Slots>>(
     frame: &Frame,
     gate: &G,
     out: &mut Vec<u8>,
-) -> Result<(), Stop>
+) -> Result<(), RunStop>
     requires ready { G.is_ready gate.now }
     ensures { GrewBy (MayRefuseReduction (G.may_refuse gate.now) frame.now (EachInArgument argument.now)) result out.old.items out.new.items
         (argument_text frame.now.limits argument.now frame.now.memory) }
@@ -67,7 +67,7 @@ fn show_all<G: Team<Kept = Slots>>(
     frame: &Frame,
     gate: &G,
     out: &mut Vec<u8>,
-) -> Result<(), Stop>
+) -> Result<(), RunStop>
     requires ready { G.is_ready gate.now }
     ensures { GrewBy (MayRefuseReduction (G.may_refuse gate.now) frame.now (EachInArguments arguments.now)) result out.old.items out.new.items
         (arguments_text frame.now.limits arguments.now frame.now.memory) }
@@ -99,7 +99,7 @@ pub fn write<G: Team<Kept = Slots>>(
     frame: &Frame,
     gate: &G,
     out: &mut Vec<u8>,
-) -> Result<(), Stop>
+) -> Result<(), RunStop>
     requires ready { G.is_ready gate.now }
     ensures { (done : Deeds)
         → RunsTo (MayRefuseReduction (G.may_refuse gate.now) frame.now (EachInArguments arguments.now)) result frame.now.memory

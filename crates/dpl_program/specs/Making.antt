@@ -11,7 +11,7 @@ use Rattle.dpl_memory.specs.Memory.{Memory}
 use Rattle.dpl_standing.specs.Standing.{InTurn}
 use Rattle.dpl_nodes.specs.Steps.{intent_view}
 use Rattle.dpl_frame.specs.Frames.{Framed}
-use Rattle.dpl_loop.specs.declared.stop.Stop.{Stop}
+use Rattle.dpl_loop.specs.declared.stop.RunStop.{RunStop}
 use Rattle.dpl_loop.specs.Runs.{RunsTo}
 use Rattle.dpl_loop.specs.Entries.{MayRefuse}
 use Rattle.dpl_readings.specs.Readings.{steps_in}
@@ -30,13 +30,13 @@ forall_run limits l =
 abbrev pub MayRefuseTurns : (ℕ → ℕ → Type 0) → Framed → Forall → Type 0
 MayRefuseTurns may f l = MayRefuse may (dealt_by f l.origin (written_among (steps_in InTurn l.body.now))) l.indices
 
-abbrev pub HasMade : (ℕ → ℕ → Type 0) → Forall → Framed → Result (Unit {0}) Stop → Framed → Type 0
+abbrev pub HasMade : (ℕ → ℕ → Type 0) → Forall → Framed → Result (Unit {0}) RunStop → Framed → Type 0
 HasMade may l before result after =
     ((done : Deeds) → RunsTo (MayRefuseTurns may before l) result after.memory done (forall_run before.limits l before.memory done))
     × (after.limits ≡ before.limits)
 
 -- an assignment to a whole array, over its domain and by its map
-abbrev pub HasMadeWhole : (ℕ → ℕ → Type 0) → WholeTurns → List TextRange → List AxisValue → Framed → Result (Unit {0}) Stop → Framed → Type 0
+abbrev pub HasMadeWhole : (ℕ → ℕ → Type 0) → WholeTurns → List TextRange → List AxisValue → Framed → Result (Unit {0}) RunStop → Framed → Type 0
 HasMadeWhole may turns over map before result after =
     ((done : Deeds) → RunsTo (MayRefuse may map over) result after.memory done
     (in_order (named_turn (whole_turn turns before.limits)) (indices_in over) before.memory done))

@@ -10,7 +10,7 @@ use dpl_dependence::{are_independent, are_own};
 use dpl_domain::Index;
 use dpl_elements::{Crew, WholeTurns};
 use dpl_frame::{Alarm, Arrays, DomainWord, Frame, Truth, Turn};
-use dpl_loop::{Apart, Gate, Row, Stop, Turns, forall_here};
+use dpl_loop::{Apart, Gate, Row, RunStop, Turns, forall_here};
 use dpl_map::Map;
 use dpl_nodes::{
     Argument, DomainExpr, IntFold, Intent, Names, PromotedInt, PromotedTruth, RangeExpr, Spot,
@@ -77,7 +77,7 @@ impl<A: Arrays> Crew for TurnContext<A> {
         over: DomainWord,
         map: &Map,
         frame: &mut Frame<A>,
-    ) -> Result<(), Stop> {
+    ) -> Result<(), RunStop> {
         forall_here(turns, over, map, frame, self)
     }
 }
@@ -95,7 +95,7 @@ impl<A: Arrays> Context for TurnContext<A> {
         _arguments: &[Argument<'_>],
         _frame: &Frame<A>,
         _out: &mut (),
-    ) -> Result<(), Stop> {
+    ) -> Result<(), RunStop> {
         Ok(())
     }
 
@@ -107,7 +107,7 @@ impl<A: Arrays> Context for TurnContext<A> {
         _intents: &[Intent],
         _body: &[Step<'t>],
         _frame: &mut Frame<A>,
-    ) -> Result<(), Stop> {
+    ) -> Result<(), RunStop> {
         Ok(())
     }
 
@@ -119,7 +119,7 @@ impl<A: Arrays> Context for TurnContext<A> {
         _intents: &[Intent],
         _body: &[Step<'t>],
         _frame: &mut Frame<A>,
-    ) -> Result<(), Stop> {
+    ) -> Result<(), RunStop> {
         Ok(())
     }
 }
@@ -141,7 +141,7 @@ impl<'b, 't> Turns for Body<'b, 't> {
     ghost turn = { λ body limits. index_turn limits body.names (steps_in InTurn body.steps.now) };
 
     #[inline(always)]
-    fn make<A: Arrays>(&self, index: Index, frame: &mut Frame<A>) -> Result<(), Stop> {
+    fn make<A: Arrays>(&self, index: Index, frame: &mut Frame<A>) -> Result<(), RunStop> {
         bind(&self.names, index, frame);
         let context = TurnContext::<A> { kept: PhantomData };
         run(self.steps, &context, frame, &mut ())

@@ -27,7 +27,7 @@ use crate::dealt::dealt;
 use crate::forall::{Forall, make_forall};
 use dpl_elements::{Crew, WholeTurns};
 use dpl_frame::{Alarm, Arrays, DomainWord, Frame, RangeWord, Slots, Truth, Turn};
-use dpl_loop::{Gate, Stop, forall, forall_line};
+use dpl_loop::{Gate, RunStop, forall, forall_line};
 use dpl_map::Map;
 use dpl_nodes::{
     Argument, DomainExpr, IntFold, Intent, Names, PromotedInt, PromotedTruth, RangeExpr, Spot,
@@ -52,8 +52,8 @@ struct ProgramContext<'g, G, W, M, I, T> {
 
 impl<'g, G: Gate, W, M, I, T> Gate for ProgramContext<'g, G, W, M, I, T>
 where
-    W: Fn(&WholeTurns<'_, '_>, DomainWord, &Map, &mut Frame) -> Result<(), Stop>,
-    M: Fn(&Forall<'_, '_>, &mut Frame) -> Result<(), Stop>,
+    W: Fn(&WholeTurns<'_, '_>, DomainWord, &Map, &mut Frame) -> Result<(), RunStop>,
+    M: Fn(&Forall<'_, '_>, &mut Frame) -> Result<(), RunStop>,
     I: Fn(IntFold, &PromotedInt<'_>, &Spot, &Frame, &mut Turn) -> Result<i64, Alarm>,
     T: Fn(TruthFold, &PromotedTruth<'_>, &Spot, &Frame, &mut Turn) -> Result<Truth, Alarm>,
 {
@@ -72,8 +72,8 @@ where
 
 impl<'g, G: Gate, W, M, I, T> Team for ProgramContext<'g, G, W, M, I, T>
 where
-    W: Fn(&WholeTurns<'_, '_>, DomainWord, &Map, &mut Frame) -> Result<(), Stop>,
-    M: Fn(&Forall<'_, '_>, &mut Frame) -> Result<(), Stop>,
+    W: Fn(&WholeTurns<'_, '_>, DomainWord, &Map, &mut Frame) -> Result<(), RunStop>,
+    M: Fn(&Forall<'_, '_>, &mut Frame) -> Result<(), RunStop>,
     I: Fn(IntFold, &PromotedInt<'_>, &Spot, &Frame, &mut Turn) -> Result<i64, Alarm>,
     T: Fn(TruthFold, &PromotedTruth<'_>, &Spot, &Frame, &mut Turn) -> Result<Truth, Alarm>,
 {
@@ -117,8 +117,8 @@ where
 
 impl<'g, G: Gate, W, M, I, T> Crew for ProgramContext<'g, G, W, M, I, T>
 where
-    W: Fn(&WholeTurns<'_, '_>, DomainWord, &Map, &mut Frame) -> Result<(), Stop>,
-    M: Fn(&Forall<'_, '_>, &mut Frame) -> Result<(), Stop>,
+    W: Fn(&WholeTurns<'_, '_>, DomainWord, &Map, &mut Frame) -> Result<(), RunStop>,
+    M: Fn(&Forall<'_, '_>, &mut Frame) -> Result<(), RunStop>,
     I: Fn(IntFold, &PromotedInt<'_>, &Spot, &Frame, &mut Turn) -> Result<i64, Alarm>,
     T: Fn(TruthFold, &PromotedTruth<'_>, &Spot, &Frame, &mut Turn) -> Result<Truth, Alarm>,
 {
@@ -128,7 +128,7 @@ where
         over: DomainWord,
         map: &Map,
         frame: &mut Frame,
-    ) -> Result<(), Stop> {
+    ) -> Result<(), RunStop> {
         (self.make_whole)(turns, over, map, frame)
     }
 }
@@ -142,7 +142,7 @@ fn turns_of_line<'t, A: Arrays, G: Gate>(
     body: &[Step<'t>],
     frame: &mut Frame<A>,
     gate: &G,
-) -> Result<(), Stop>
+) -> Result<(), RunStop>
     ensures ends { (done : Deeds) → RunsTo
         (MayRefuse (G.may_refuse gate.now) (dealt_by frame.old None (written_among (steps_in InTurn body.now))) (range_word indices.now ∷ []))
         result frame.new.memory done
@@ -168,8 +168,8 @@ fn turns_of_line<'t, A: Arrays, G: Gate>(
 
 impl<'g, G: Gate, W, M, I, T> Context for ProgramContext<'g, G, W, M, I, T>
 where
-    W: Fn(&WholeTurns<'_, '_>, DomainWord, &Map, &mut Frame) -> Result<(), Stop>,
-    M: Fn(&Forall<'_, '_>, &mut Frame) -> Result<(), Stop>,
+    W: Fn(&WholeTurns<'_, '_>, DomainWord, &Map, &mut Frame) -> Result<(), RunStop>,
+    M: Fn(&Forall<'_, '_>, &mut Frame) -> Result<(), RunStop>,
     I: Fn(IntFold, &PromotedInt<'_>, &Spot, &Frame, &mut Turn) -> Result<i64, Alarm>,
     T: Fn(TruthFold, &PromotedTruth<'_>, &Spot, &Frame, &mut Turn) -> Result<Truth, Alarm>,
 {
@@ -186,7 +186,7 @@ where
         arguments: &[Argument<'_>],
         frame: &Frame,
         out: &mut Vec<u8>,
-    ) -> Result<(), Stop> {
+    ) -> Result<(), RunStop> {
         write(ends_line, arguments, frame, self, out)
     }
 
@@ -199,7 +199,7 @@ where
         intents: &[Intent],
         body: &[Step<'t>],
         frame: &mut Frame,
-    ) -> Result<(), Stop> {
+    ) -> Result<(), RunStop> {
         let range = range_indices(at, over, frame, self)?;
         let Some(indices) = DomainWord::new(&[range]) else {
             return turns_of_line(slot, &range, intents, body, frame, self);
@@ -223,7 +223,7 @@ where
         intents: &[Intent],
         body: &[Step<'t>],
         frame: &mut Frame,
-    ) -> Result<(), Stop> {
+    ) -> Result<(), RunStop> {
         let indices = domain_indices(at, over, frame, self)?;
         let made = Forall {
             names: *names,
@@ -246,8 +246,8 @@ struct Loops<'g, W, M> {
 // Runs statements, whose loops of turns and whose reductions of ints closures make.
 fn run_ints_by<
     't,
-    W: Fn(&WholeTurns<'_, '_>, DomainWord, &Map, &mut Frame) -> Result<(), Stop>,
-    M: Fn(&Forall<'_, '_>, &mut Frame) -> Result<(), Stop>,
+    W: Fn(&WholeTurns<'_, '_>, DomainWord, &Map, &mut Frame) -> Result<(), RunStop>,
+    M: Fn(&Forall<'_, '_>, &mut Frame) -> Result<(), RunStop>,
     I: Fn(IntFold, &PromotedInt<'_>, &Spot, &Frame, &mut Turn) -> Result<i64, Alarm>,
     R: Threads + Wait + Sync,
     G: Gate + Sync,
@@ -259,7 +259,7 @@ fn run_ints_by<
     frame: &mut Frame,
     gate: &G,
     out: &mut Vec<u8>,
-) -> Result<(), Stop>
+) -> Result<(), RunStop>
     requires callable { M.IsAlwaysCallable loops.now.make.now }
     requires makes { (made before result after : _) → M.post loops.now.make.now made before result after
         → HasMade (G.may_refuse gate.now) made.now before.now result after.now }
@@ -291,8 +291,8 @@ fn run_ints_by<
 // Runs statements, whose loops of turns closures make.
 fn run_wholes_by<
     't,
-    W: Fn(&WholeTurns<'_, '_>, DomainWord, &Map, &mut Frame) -> Result<(), Stop>,
-    M: Fn(&Forall<'_, '_>, &mut Frame) -> Result<(), Stop>,
+    W: Fn(&WholeTurns<'_, '_>, DomainWord, &Map, &mut Frame) -> Result<(), RunStop>,
+    M: Fn(&Forall<'_, '_>, &mut Frame) -> Result<(), RunStop>,
     R: Threads + Wait + Sync,
     G: Gate + Sync,
 >(
@@ -302,7 +302,7 @@ fn run_wholes_by<
     frame: &mut Frame,
     gate: &G,
     out: &mut Vec<u8>,
-) -> Result<(), Stop>
+) -> Result<(), RunStop>
     requires callable { M.IsAlwaysCallable loops.now.make.now }
     requires makes { (made before result after : _) → M.post loops.now.make.now made before result after
         → HasMade (G.may_refuse gate.now) made.now before.now result after.now }
@@ -324,7 +324,7 @@ fn run_wholes_by<
 // Runs statements, whose foralls a closure makes.
 fn run_by<
     't,
-    M: Fn(&Forall<'_, '_>, &mut Frame) -> Result<(), Stop>,
+    M: Fn(&Forall<'_, '_>, &mut Frame) -> Result<(), RunStop>,
     R: Threads + Wait + Sync,
     G: Gate + Sync,
 >(
@@ -334,7 +334,7 @@ fn run_by<
     frame: &mut Frame,
     gate: &G,
     out: &mut Vec<u8>,
-) -> Result<(), Stop>
+) -> Result<(), RunStop>
     requires callable { M.IsAlwaysCallable make.now }
     requires makes { (made before result after : _) → M.post make.now made before result after
         → HasMade (G.may_refuse gate.now) made.now before.now result after.now }
@@ -345,7 +345,7 @@ fn run_by<
     let make_whole = move |turns: &WholeTurns<
         '_,
         '_,
-    >, over: DomainWord, map: &Map, frame: &mut Frame| -> Result<(), Stop>
+    >, over: DomainWord, map: &Map, frame: &mut Frame| -> Result<(), RunStop>
         ensures { HasMadeWhole (G.may_refuse gate.entry.now) turns.now over map.now frame.old result frame.new }
     { forall(rt, turns, over, map, frame, gate) };
     let loops = Loops {
@@ -366,12 +366,12 @@ pub fn run<'t, R: Threads + Wait + Sync, G: Gate + Sync>(
     frame: &mut Frame,
     gate: &G,
     out: &mut Vec<u8>,
-) -> Result<(), Stop>
+) -> Result<(), RunStop>
     ensures ends { (done : Deeds) → RunsTo (MayRefuseSome (G.may_refuse gate.now)) result frame.new.memory (having_printed out.new.items done)
         (exec_all frame.old.limits in_memory (steps_in Outside steps.now) frame.old.memory (having_printed out.old.items done)) }
     ensures limits { frame.new.limits ≡ frame.old.limits }
 {
-    let make = move |made: &Forall<'_, '_>, frame: &mut Frame| -> Result<(), Stop>
+    let make = move |made: &Forall<'_, '_>, frame: &mut Frame| -> Result<(), RunStop>
         ensures { HasMade (G.may_refuse gate.entry.now) made.now frame.old result frame.new }
     { make_forall(rt, made, frame, gate) };
     run_by(rt, &make, steps, frame, gate, out)

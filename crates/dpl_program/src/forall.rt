@@ -15,7 +15,7 @@ use crate::body::Body;
 use crate::changed::Changed;
 use crate::dealt::dealt;
 use dpl_frame::{DomainWord, Frame};
-use dpl_loop::{Gate, Stop, forall};
+use dpl_loop::{Gate, RunStop, forall};
 use dpl_map::Map;
 use dpl_nodes::{Intent, Names, Step};
 use std::sync::Wait;
@@ -41,7 +41,7 @@ fn turns_of<R: Threads + Wait + Sync, G: Gate + Sync>(
     map: &Map,
     frame: &mut Frame,
     gate: &G,
-) -> Result<(), Stop>
+) -> Result<(), RunStop>
     ensures ends { (done : Deeds) → RunsTo (MayRefuse (G.may_refuse gate.now) map.now over) result frame.new.memory done
         (in_order (named_turn (index_turn frame.old.limits turns.now.names (steps_in InTurn turns.now.steps.now))) (indices_in over)
         frame.old.memory done) }
@@ -59,14 +59,14 @@ pub(crate) fn make_forall<R: Threads + Wait + Sync, G: Gate + Sync>(
     made: &Forall<'_, '_>,
     frame: &mut Frame,
     gate: &G,
-) -> Result<(), Stop>
+) -> Result<(), RunStop>
     ensures ends { (done : Deeds) → RunsTo (MayRefuseTurns (G.may_refuse gate.now) frame.old made.now) result frame.new.memory done
         (forall_run frame.old.limits made.now frame.old.memory done) }
     ensures limits { frame.new.limits ≡ frame.old.limits }
 {
     let map = dealt(made.body, made.origin, frame);
     let Ok(changed) = Changed::of(&made.names, made.body, frame.alloc()) else {
-        return Err(Stop::Memory);
+        return Err(RunStop::Memory);
     };
     let turns = Body {
         names: made.names,

@@ -8,8 +8,8 @@ use Rattle.dpl_syntax.specs.declared.refusal.Code.TheVariants.{WrittenElsewhere,
 use Rattle.dpl_rules.specs.Verdicts.{owed}
 use Rattle.dpl_rules.specs.Sights.{is_reduced}
 use Rattle.dpl_rules.specs.Deeds.{Holding, APrint, AForall, ACoforall, AReduction, AnInnerReduction, ACellCall, AnOn, AHere, ADeclaration, AReduceIntent, Deed, Reads, ReadsAt, Writes, WritesAt, Holds}
-use Rattle.dpl_rules.specs.Bodies.{Turns, is_outer, is_outer_array, is_own, is_in, written_arrays, is_scalar_or_domain, goes_on_in, may_change, forall_holds, write_breaches, read_breaches, change_breaches, holding_breaches, each, deed_breaches, forall_breaches}
-use Rattle.dpl_rules.specs.Foralls.{ForallIn, turns_in, deeds_in}
+use Rattle.dpl_rules.specs.Bodies.{ForallScope, is_outer, is_outer_array, is_own, is_in, written_arrays, is_scalar_or_domain, goes_on_in, may_change, forall_holds, write_breaches, read_breaches, change_breaches, holding_breaches, each, deed_breaches, forall_breaches}
+use Rattle.dpl_rules.specs.Foralls.{ForallIn, scope_in, deeds_in}
 use Rattle.dpl_rules.specs.Admitted.{MayHold, MayDo, MayDoAll, IsAdmittedBody, IsAdmitted}
 
 -- ---- lists and tests
@@ -89,7 +89,7 @@ is_held ADeclaration e = absurd e
 is_held AReduceIntent e = refl
 
 -- ---- one deed
-module _ (loop : Turns) (written : List Origin) where
+module _ (loop : ForallScope) (written : List Origin) where
   may_do : (d : Deed) → write_breaches loop d ≡ [] → read_breaches loop written d ≡ [] → change_breaches loop d ≡ [] → holding_breaches d ≡ []
       → MayDo loop written d
   may_do (Reads at d) w r c h = (
@@ -181,11 +181,11 @@ module _ (loop : Turns) (written : List Origin) where
       both_empty (deed_breaches loop written d) (each (deed_breaches loop written) ds) (deed_unbroken d m.0) (none_broken ds m.1)
 
 -- ---- a body, and a forall
-pub unbroken_admitted : (loop : Turns) (ds : List Deed) → forall_breaches loop ds ≡ [] → IsAdmittedBody loop ds
+pub unbroken_admitted : (loop : ForallScope) (ds : List Deed) → forall_breaches loop ds ≡ [] → IsAdmittedBody loop ds
 unbroken_admitted loop ds e = may_do_all loop (written_arrays loop ds) ds e
 
-pub admitted_unbroken : (loop : Turns) (ds : List Deed) → IsAdmittedBody loop ds → forall_breaches loop ds ≡ []
+pub admitted_unbroken : (loop : ForallScope) (ds : List Deed) → IsAdmittedBody loop ds → forall_breaches loop ds ≡ []
 admitted_unbroken loop ds m = none_broken loop (written_arrays loop ds) ds m
 
-pub admitted_exactly : (f : ForallIn) → IsAdmitted f ↔ (forall_breaches (turns_in f) (deeds_in f) ≡ [])
-admitted_exactly f = (admitted_unbroken (turns_in f) (deeds_in f), unbroken_admitted (turns_in f) (deeds_in f))
+pub admitted_exactly : (f : ForallIn) → IsAdmitted f ↔ (forall_breaches (scope_in f) (deeds_in f) ≡ [])
+admitted_exactly f = (admitted_unbroken (scope_in f) (deeds_in f), unbroken_admitted (scope_in f) (deeds_in f))

@@ -9,7 +9,7 @@ use Rattle.dpl_language.specs.Tree.{StmtTree, Forall}
 use Rattle.dpl_language.proofs.Spelled.{at, name, after, declared, initial, listed, sign}
 use Rattle.dpl_rules.specs.Types.{Origin}
 use Rattle.dpl_rules.specs.Sights.{Scopes}
-use Rattle.dpl_rules.specs.Foralls.{turns_in, deeds_in, foralls}
+use Rattle.dpl_rules.specs.Foralls.{scope_in, deeds_in, foralls}
 use Rattle.dpl_rules.specs.Breaches.{top}
 use Rattle.dpl_rules.specs.Sound.{behind_all}
 use Rattle.dpl_rules.specs.Shifts.{Shift, shift, shifted_reads}
@@ -24,7 +24,7 @@ house = behind_all top (behind_house NoStmts)
 
 -- the shifted reads of a forall
 abbrev shifts_of : StmtTree (List ℕ) → List (Origin × List Shift)
-shifts_of t = flat_map (λ f. shifted_reads (turns_in f) (deeds_in f)) (foralls house t)
+shifts_of t = flat_map (λ f. shifted_reads (scope_in f) (deeds_in f)) (foralls house t)
 
 -- forall i in D do C[i] = A[i-1] + A[i+1] + A[i];
 neighbours : shifts_of

@@ -8,7 +8,7 @@ use Rattle.dpl_rules.specs.Sights.{Sight, enter, inside}
 use Rattle.dpl_rules.specs.Assignments.{condition_breaches, on_breaches}
 use Rattle.dpl_rules.specs.Loops.{ForWord, ForallWord, CoforallWord, header_breaches, with_breaches, in_loop, behind}
 use Rattle.dpl_rules.specs.Doings.{with_deeds, body_deeds, stmts_deeds}
-use Rattle.dpl_rules.specs.Bodies.{turns_of, forall_breaches, task_breaches, inner_reductions}
+use Rattle.dpl_rules.specs.Bodies.{forall_scope, forall_breaches, task_breaches, inner_reductions}
 use Rattle.dpl_rules.specs.Foralls.{ForallIn, foralls, body_foralls, all_foralls, else_foralls}
 use Rattle.dpl_rules.specs.Admitted.{AreAdmitted}
 use Rattle.dpl_rules.specs.Breaches.{in_forall, in_coforall, stmt_breaches, body_breaches, stmts_breaches, else_breaches, top, top_sight, all_declarations, count_breaches, breaches, before, least_from, first_breach}
@@ -43,7 +43,7 @@ mutual
       body_admitted within body (second_empty (header_breaches sight.scopes ForWord xs item) (body_breaches within body) e)
   stmt_admitted sight (Forall at xs word item intents body) e =
       let within = in_forall sight xs item intents in
-      let loop = turns_of sight.scopes xs intents in
+      let loop = forall_scope sight.scopes xs intents in
       let deeds = body_deeds (in_loop sight.scopes ForallWord xs item) body in
       let header = header_breaches sight.scopes ForallWord xs item ++ with_breaches sight.scopes intents in
       let turns = header ++ forall_breaches loop deeds in (

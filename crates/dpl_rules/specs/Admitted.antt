@@ -7,15 +7,15 @@ use Rattle.dpl_language.specs.Tree.{Assign}
 use Rattle.dpl_rules.specs.Types.{Origin, has}
 use Rattle.dpl_rules.specs.Sights.{Declared, is_reduced}
 use Rattle.dpl_rules.specs.Deeds.{IndexPart, Holding, AReduceIntent, Deed, Reads, ReadsAt, Writes, WritesAt, Holds}
-use Rattle.dpl_rules.specs.Bodies.{Turns, is_outer, is_outer_array, is_own, is_in, written_arrays, is_scalar_or_domain, goes_on_in}
-use Rattle.dpl_rules.specs.Foralls.{ForallIn, turns_in, deeds_in}
+use Rattle.dpl_rules.specs.Bodies.{ForallScope, is_outer, is_outer_array, is_own, is_in, written_arrays, is_scalar_or_domain, goes_on_in}
+use Rattle.dpl_rules.specs.Foralls.{ForallIn, scope_in, deeds_in}
 
 -- what a body holds: of all that is told apart here a reduce intent alone, and none is there without its forall
 abbrev pub MayHold : Holding → Type 0
 MayHold AReduceIntent = Unit {0}
 MayHold _ = ⊥
 
-module _ (loop : Turns) (written : List Origin) where
+module _ (loop : ForallScope) (written : List Origin) where
   -- an array that the body writes
   abbrev pub IsWritten : Declared → Type 0
   IsWritten d = is_in d.origin written ≡ true
@@ -43,11 +43,11 @@ module _ (loop : Turns) (written : List Origin) where
   MayDoAll [] = Unit {0}
   MayDoAll (d ∷ ds) = MayDo d × MayDoAll ds
 
-abbrev pub IsAdmittedBody : Turns → List Deed → Type 0
+abbrev pub IsAdmittedBody : ForallScope → List Deed → Type 0
 IsAdmittedBody loop ds = MayDoAll loop (written_arrays loop ds) ds
 
 abbrev pub IsAdmitted : ForallIn → Type 0
-IsAdmitted f = IsAdmittedBody (turns_in f) (deeds_in f)
+IsAdmitted f = IsAdmittedBody (scope_in f) (deeds_in f)
 
 -- each of some foralls is admitted
 abbrev pub AreAdmitted : List ForallIn → Type 0

@@ -13,7 +13,7 @@ use Rattle.dpl_rules.specs.Loops.{variables_of, reducing_in}
 use Rattle.dpl_rules.specs.Deeds.{IndexPart, AtName, Holding, AnInnerReduction, ACellCall, AnOn, AHere, AReduceIntent, Deed, Reads, ReadsAt, Writes, WritesAt, Holds, is_promoted, item_deeds}
 
 -- a forall as its body's rules see it: its variables, its reduce variables, and how many scopes are open around it
-pub record Turns : Type 0 where
+pub record ForallScope : Type 0 where
   pub variables : List Text
   pub reducing : Reducing
 
@@ -21,39 +21,39 @@ abbrev pub names_of : List (Placed Text) → List Text
 names_of xs = map {A = Placed Text} {B = Text} (λ x. x.name) xs
 
 -- a forall that stands where these scopes are open
-abbrev pub turns_of : Scopes → VariablesTree Text → Option (WithTree Text) → Turns
-turns_of ss xs intents = record { variables = names_of (variables_of xs); reducing = reducing_in ss intents }
+abbrev pub forall_scope : Scopes → VariablesTree Text → Option (WithTree Text) → ForallScope
+forall_scope ss xs intents = record { variables = names_of (variables_of xs); reducing = reducing_in ss intents }
 
-abbrev pub is_outer : Turns → Declared → Bool
+abbrev pub is_outer : ForallScope → Declared → Bool
 is_outer loop d = is_outside loop.reducing.depth d
 
 -- ---- the own index: the loop's variables in order, or its tuple name
 -- the loop's variables stand in the scope that it opens
-abbrev pub is_variable : Turns → Text → Declared → Bool
+abbrev pub is_variable : ForallScope → Text → Declared → Bool
 is_variable loop x d = d.origin.depth == loop.reducing.depth + 1 && bytes_eq x d.origin.name
 
-abbrev pub is_variable_at : Turns → Text → IndexPart → Bool
+abbrev pub is_variable_at : ForallScope → Text → IndexPart → Bool
 is_variable_at loop x (AtName d) = is_variable loop x d
 is_variable_at loop x _ = false
 
-abbrev pub are_variables : Turns → List Text → List IndexPart → Bool
+abbrev pub are_variables : ForallScope → List Text → List IndexPart → Bool
 are_variables loop [] [] = true
 are_variables loop (x ∷ xs) (i ∷ is) = is_variable_at loop x i && are_variables loop xs is
 are_variables loop _ _ = false
 
-abbrev pub is_own : Turns → List IndexPart → Bool
+abbrev pub is_own : ForallScope → List IndexPart → Bool
 is_own loop is = are_variables loop loop.variables is
 
 -- ---- what a body writes
 -- an outer array
-abbrev pub is_outer_array : Turns → Declared → Bool
+abbrev pub is_outer_array : ForallScope → Declared → Bool
 is_outer_array loop d = is_outer loop d && has is_array d.type
 
-abbrev pub written_by : Turns → Declared → List Origin
+abbrev pub written_by : ForallScope → Declared → List Origin
 written_by loop d = if is_outer_array loop d then d.origin ∷ [] else []
 
 -- the outer arrays that a body writes
-abbrev pub written_arrays : Turns → List Deed → List Origin
+abbrev pub written_arrays : ForallScope → List Deed → List Origin
 written_arrays loop [] = []
 written_arrays loop (Writes at d op ∷ ds) = written_by loop d ++ written_arrays loop ds
 written_arrays loop (WritesAt at d is op ∷ ds) = written_by loop d ++ written_arrays loop ds
@@ -64,13 +64,13 @@ is_in o [] = false
 is_in o (p ∷ ps) = same_origin o p || is_in o ps
 
 -- ---- C6: a forall writes an outer array at its own index alone
-abbrev pub write_breaches : Turns → Deed → List Breach
+abbrev pub write_breaches : ForallScope → Deed → List Breach
 write_breaches loop (Writes at d op) = owed (not (is_outer_array loop d)) at WrittenElsewhere
 write_breaches loop (WritesAt at d is op) = owed (not (is_outer_array loop d) || is_own loop is) at WrittenElsewhere
 write_breaches loop _ = []
 
 -- ---- C7: an array that a forall writes is read at its own index alone
-abbrev pub read_breaches : Turns → List Origin → Deed → List Breach
+abbrev pub read_breaches : ForallScope → List Origin → Deed → List Breach
 read_breaches loop written (Reads at d) = owed (not (is_in d.origin written)) at ReadElsewhere
 read_breaches loop written (ReadsAt at d is) = owed (not (is_in d.origin written) || is_own loop is) at ReadElsewhere
 read_breaches loop written _ = []
@@ -92,11 +92,11 @@ abbrev pub is_scalar_or_domain : ValueType → Bool
 is_scalar_or_domain t = is_any_scalar t || is_locale t || is_domain t
 
 -- a name that may be written so: it isn't outer, or is no scalar or domain, or the assignment goes on with its intent
-abbrev pub may_change : Turns → Declared → Assign → Bool
+abbrev pub may_change : ForallScope → Declared → Assign → Bool
 may_change loop d op =
     not (is_outer loop d) || (not (has is_scalar_or_domain d.type) || goes_on_in loop.reducing.variables d.origin.name op)
 
-abbrev pub change_breaches : Turns → Deed → List Breach
+abbrev pub change_breaches : ForallScope → Deed → List Breach
 change_breaches loop (Reads at d) = owed (not (is_reduced loop.reducing d)) at OuterChanged
 change_breaches loop (ReadsAt at d is) = owed (not (is_reduced loop.reducing d)) at OuterChanged
 change_breaches loop (Writes at d op) = owed (may_change loop d op) at OuterChanged
@@ -118,11 +118,11 @@ abbrev pub each : (Deed → List Breach) → List Deed → List Breach
 each f [] = []
 each f (d ∷ ds) = f d ++ each f ds
 
-abbrev pub deed_breaches : Turns → List Origin → Deed → List Breach
+abbrev pub deed_breaches : ForallScope → List Origin → Deed → List Breach
 deed_breaches loop written d =
     write_breaches loop d ++ read_breaches loop written d ++ change_breaches loop d ++ holding_breaches d
 
-abbrev pub forall_breaches : Turns → List Deed → List Breach
+abbrev pub forall_breaches : ForallScope → List Deed → List Breach
 forall_breaches loop ds = each (deed_breaches loop (written_arrays loop ds)) ds
 
 -- ---- C10: a coforall's body writes no outer name, holds no print, forall, coforall, reduction or reduce intent, and

@@ -15,7 +15,7 @@ use Rattle.dpl_rules.specs.Declarations.{declaration_breaches}
 use Rattle.dpl_rules.specs.Assignments.{assignment_breaches, call_breaches, printed_breaches, condition_breaches, on_breaches}
 use Rattle.dpl_rules.specs.Loops.{ForWord, ForallWord, CoforallWord, header_breaches, with_breaches, in_loop, reducing_in, behind}
 use Rattle.dpl_rules.specs.Doings.{with_deeds, body_deeds, stmts_deeds}
-use Rattle.dpl_rules.specs.Bodies.{turns_of, forall_breaches, task_breaches, inner_reductions, promoted_breaches}
+use Rattle.dpl_rules.specs.Bodies.{forall_scope, forall_breaches, task_breaches, inner_reductions, promoted_breaches}
 
 -- ---- what a forall's and a coforall's body have in sight
 abbrev pub in_forall : Sight → VariablesTree Text → ItemTree Text → Option (WithTree Text) → Sight
@@ -43,7 +43,7 @@ abbrev mutual
       header_breaches sight.scopes ForWord xs item ++ body_breaches (inside sight (in_loop sight.scopes ForWord xs item)) body
   stmt_breaches sight (Forall at xs word item intents body) =
       header_breaches sight.scopes ForallWord xs item ++ with_breaches sight.scopes intents
-      ++ forall_breaches (turns_of sight.scopes xs intents) (body_deeds (in_loop sight.scopes ForallWord xs item) body)
+      ++ forall_breaches (forall_scope sight.scopes xs intents) (body_deeds (in_loop sight.scopes ForallWord xs item) body)
       ++ body_breaches (in_forall sight xs item intents) body
   stmt_breaches sight (Coforall at xs word item intents body) =
       header_breaches sight.scopes CoforallWord xs item ++ with_breaches sight.scopes intents

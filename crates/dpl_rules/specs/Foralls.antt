@@ -8,7 +8,7 @@ use Rattle.dpl_rules.specs.Sights.{Scopes, enter}
 use Rattle.dpl_rules.specs.Loops.{ForWord, ForallWord, CoforallWord, in_loop, behind}
 use Rattle.dpl_rules.specs.Deeds.{Deed}
 use Rattle.dpl_rules.specs.Doings.{body_deeds}
-use Rattle.dpl_rules.specs.Bodies.{Turns, turns_of}
+use Rattle.dpl_rules.specs.Bodies.{ForallScope, forall_scope}
 
 -- a forall, the place of its word, and the scopes that are open around it
 pub record ForallIn : Type 0 where
@@ -20,8 +20,8 @@ pub record ForallIn : Type 0 where
   pub body : Body Text
 
 -- a forall as its body's rules see it, and what its body does
-abbrev pub turns_in : ForallIn → Turns
-turns_in f = turns_of f.scopes f.variables f.intents
+abbrev pub scope_in : ForallIn → ForallScope
+scope_in f = forall_scope f.scopes f.variables f.intents
 
 abbrev pub deeds_in : ForallIn → List Deed
 deeds_in f = body_deeds (in_loop f.scopes ForallWord f.variables f.over) f.body

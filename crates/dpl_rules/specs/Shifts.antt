@@ -6,7 +6,7 @@ use Rattle.dpl_language.specs.Names.{Text}
 use Rattle.dpl_rules.specs.Types.{Origin, ValueType, tuple_of}
 use Rattle.dpl_rules.specs.Sights.{Declared}
 use Rattle.dpl_rules.specs.Deeds.{IndexPart, AtName, Shifted, Elsewhere, Deed, ReadsAt}
-use Rattle.dpl_rules.specs.Bodies.{Turns, is_variable, is_in, written_arrays}
+use Rattle.dpl_rules.specs.Bodies.{ForallScope, is_variable, is_in, written_arrays}
 
 -- one index of a shifted read: which coordinate of the turn's index it takes, counted from 0, and what it adds
 pub record Shift : Type 0 where
@@ -17,7 +17,7 @@ abbrev pub shift : ℕ → ℤ → Shift
 shift n z = record { coordinate = n; offset = z }
 
 -- which variable of the forall a declaration is, counted from 0
-abbrev pub coordinate_from : ℕ → Turns → List Text → Declared → Option ℕ
+abbrev pub coordinate_from : ℕ → ForallScope → List Text → Declared → Option ℕ
 coordinate_from n loop [] d = None
 coordinate_from n loop (x ∷ xs) d = if is_variable loop x d then Some n else coordinate_from (suc n) loop xs d
 
@@ -25,7 +25,7 @@ abbrev pub moved : ℤ → Option ℕ → Option Shift
 moved z None = None
 moved z (Some n) = Some (shift n z)
 
-abbrev pub shift_of : Turns → IndexPart → Option Shift
+abbrev pub shift_of : ForallScope → IndexPart → Option Shift
 shift_of loop (AtName d) = moved (pos 0) (coordinate_from 0 loop loop.variables d)
 shift_of loop (Shifted d z) = moved z (coordinate_from 0 loop loop.variables d)
 shift_of loop Elsewhere = None
@@ -35,7 +35,7 @@ and_shift None others = None
 and_shift (Some s) None = None
 and_shift (Some s) (Some others) = Some (s ∷ others)
 
-abbrev pub shifts_of : Turns → List IndexPart → Option (List Shift)
+abbrev pub shifts_of : ForallScope → List IndexPart → Option (List Shift)
 shifts_of loop [] = Some []
 shifts_of loop (i ∷ is) = and_shift (shift_of loop i) (shifts_of loop is)
 
@@ -54,7 +54,7 @@ tuple_or (Some rank) None = None
 tuple_or (Some rank) (Some shifts) = Some (unmoved 0 rank)
 
 -- a tuple name stands alone in its list
-abbrev pub shifted_at : Turns → List IndexPart → Option (List Shift)
+abbrev pub shifted_at : ForallScope → List IndexPart → Option (List Shift)
 shifted_at loop [] = None
 shifted_at loop (AtName d ∷ []) = tuple_or (tuple_rank d.type) (shifts_of loop (AtName d ∷ []))
 shifted_at loop (Shifted d z ∷ []) = shifts_of loop (Shifted d z ∷ [])
@@ -66,11 +66,11 @@ abbrev pub with_shifts : Origin → Option (List Shift) → List (Origin × List
 with_shifts o None = []
 with_shifts o (Some shifts) = (o, shifts) ∷ []
 
-abbrev pub shifts_in : Turns → List Origin → List Deed → List (Origin × List Shift)
+abbrev pub shifts_in : ForallScope → List Origin → List Deed → List (Origin × List Shift)
 shifts_in loop written [] = []
 shifts_in loop written (ReadsAt at d is ∷ ds) =
     (if is_in d.origin written then [] else with_shifts d.origin (shifted_at loop is)) ++ shifts_in loop written ds
 shifts_in loop written (_ ∷ ds) = shifts_in loop written ds
 
-abbrev pub shifted_reads : Turns → List Deed → List (Origin × List Shift)
+abbrev pub shifted_reads : ForallScope → List Deed → List (Origin × List Shift)
 shifted_reads loop ds = shifts_in loop (written_arrays loop ds) ds

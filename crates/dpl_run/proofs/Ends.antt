@@ -13,8 +13,8 @@ use Rattle.dpl_memory.specs.Memory.{Variable, Memory, in_memory}
 use Rattle.dpl_memory.specs.Resolved.{frame_in}
 use Rattle.dpl_frame.specs.declared.fault.Fault.{Fault}
 use Rattle.dpl_frame.specs.Faults.{fault_view}
-use Rattle.dpl_loop.specs.declared.stop.Stop.{Stop}
-use Rattle.dpl_loop.specs.declared.stop.Stop.TheVariants as stop
+use Rattle.dpl_loop.specs.declared.stop.RunStop.{RunStop}
+use Rattle.dpl_loop.specs.declared.stop.RunStop.TheVariants as stop
 use Rattle.dpl_loop.specs.Runs.{RunsTo}
 use Rattle.dpl_print.specs.Texts.{having_printed}
 use Rattle.dpl_run.specs.declared.outcome.Outcome.TheVariants.{Done, Stopped}
@@ -23,23 +23,23 @@ use Rattle.dpl_run.specs.Names.{declared_names}
 use Rattle.dpl_run.specs.Runs.{RanTo}
 
 -- a run that a gate refused
-pub refused-may : (may : Type 0) (h : Stop) (s : Memory) (done : Deeds) (o : Outcome Memory) → h ≡ stop.Gate → RunsTo may (Err h) s done o → may
+pub refused-may : (may : Type 0) (h : RunStop) (s : Memory) (done : Deeds) (o : Outcome Memory) → h ≡ stop.Gate → RunsTo may (Err h) s done o → may
 refused-may may (stop.Fault f) s done o is ends = absurd (let no : stop.Fault f ≡ stop.Gate = is in cc)
 refused-may may stop.Memory s done o is ends = absurd (let no : stop.Memory ≡ stop.Gate = is in cc)
 refused-may may stop.Thread s done o is ends = absurd (let no : stop.Thread ≡ stop.Gate = is in cc)
 refused-may may stop.Gate s done o is ends = ends
 
 module _ (may : Type 0) (limits : Limits) (scopes : Scopes) (ts : Stmts Text) (steps : Stmts Variable) (words last : Memory) (none out : List ℕ) (empty : none ≡ []) where
-  abbrev Ends : Result (Unit {0}) Stop → Type 0
+  abbrev Ends : Result (Unit {0}) RunStop → Type 0
   Ends r = (done : Deeds) → RunsTo may r last (having_printed out done) (exec_all limits in_memory steps words (having_printed none done))
 
-  started : (r : Result (Unit {0}) Stop) → Ends r → RunsTo may r last (having_printed out no_deeds) (exec_all limits in_memory steps words no_deeds)
+  started : (r : Result (Unit {0}) RunStop) → Ends r → RunsTo may r last (having_printed out no_deeds) (exec_all limits in_memory steps words no_deeds)
   started r ends = subst (λ t. RunsTo may r last (having_printed out no_deeds) (exec_all limits in_memory steps words (having_printed t no_deeds))) empty (ends no_deeds)
 
   pub ran-done : (v : Unit {0}) (left : Frame) → Ends (Ok v) → left ≡ frame_in last (map (sighted_in scopes) (declared_names ts))
       → RanTo scopes ts (exec_all limits in_memory steps words no_deeds) (Done left) out
   ran-done v left ends are = (last, started (Ok v) ends, are)
 
-  pub ran-stop : (h : Stop) (fault : Fault) (said : List ℕ) → h ≡ stop.Fault fault → Ends (Err h) → said ≡ out ++ line_ended out ++ fault_text (fault_view fault) ++ 10 ∷ []
+  pub ran-stop : (h : RunStop) (fault : Fault) (said : List ℕ) → h ≡ stop.Fault fault → Ends (Err h) → said ≡ out ++ line_ended out ++ fault_text (fault_view fault) ++ 10 ∷ []
       → RanTo scopes ts (exec_all limits in_memory steps words no_deeds) (Stopped fault) said
   ran-stop h fault said is ends says = (out, started (Err (stop.Fault fault)) (subst (λ h. Ends (Err h)) is ends), says)

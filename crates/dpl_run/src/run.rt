@@ -22,7 +22,7 @@ use crate::outcome::Outcome;
 use crate::refused::Refused;
 use crate::writer::{Out, write_all};
 use dpl_frame::Frame;
-use dpl_loop::{Gate, Stop};
+use dpl_loop::{Gate, RunStop};
 use dpl_nodes::Step;
 use dpl_program::run as run_steps;
 use dpl_scopes::Scopes;
@@ -64,14 +64,14 @@ pub(crate) fn run<'t, R: Threads + Wait + Sync, G: Gate + Sync>(
             let outcome = Outcome::Done(left);
             Ok(Ended { outcome, text })
         }
-        Err(Stop::Fault(fault)) => {
+        Err(RunStop::Fault(fault)) => {
             tell_fault(alloc, fault, &mut text)?;
             let outcome = Outcome::Stopped(fault);
             Ok(Ended { outcome, text })
         }
-        Err(Stop::Memory) => Err(Refused::Memory),
-        Err(Stop::Thread) => Err(Refused::Thread),
-        Err(Stop::Gate) => Err(Refused::Gate),
+        Err(RunStop::Memory) => Err(Refused::Memory),
+        Err(RunStop::Thread) => Err(Refused::Thread),
+        Err(RunStop::Gate) => Err(Refused::Gate),
     }
 }
 

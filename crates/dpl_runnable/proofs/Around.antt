@@ -15,7 +15,7 @@ use Rattle.dpl_rules.specs.Assignments.{may_reduce_in}
 use Rattle.dpl_rules.specs.Declarations.{declared_by}
 use Rattle.dpl_rules.specs.Loops.{LoopWord, header_breaches, with_breaches, reducing_in, in_loop, behind}
 use Rattle.dpl_rules.specs.Deeds.{AForall, Deed, Holds}
-use Rattle.dpl_rules.specs.Bodies.{turns_of, each, deed_breaches}
+use Rattle.dpl_rules.specs.Bodies.{forall_scope, each, deed_breaches}
 use Rattle.dpl_rules.specs.Breaches.{stmt_breaches}
 use Rattle.dpl_rules.proofs.Admission.{first_empty, second_empty}
 use Rattle.dpl_memory.specs.Memory.{VariableKind}
@@ -63,7 +63,7 @@ pub record Stands (f : Option Turning) (scopes : Scopes) : Type 0 where
 -- ---- what it may do
 abbrev pub MayDoIn : Option Turning → List Deed → Type 0
 MayDoIn None ds = Unit {0}
-MayDoIn (Some f) ds = each (deed_breaches (turns_of f.outer f.variables f.intents) f.written) ds ≡ []
+MayDoIn (Some f) ds = each (deed_breaches (forall_scope f.outer f.variables f.intents) f.written) ds ≡ []
 
 each-append : (g : Deed → List Breach) (ds es : List Deed) → each g (ds ++ es) ≡ each g ds ++ each g es
 each-append g [] es = refl
@@ -72,13 +72,13 @@ each-append g (d ∷ ds) es = ap (λ cs. g d ++ cs) (each-append g ds es) ∙ sy
 pub first-done : (f : Option Turning) (ds es : List Deed) → MayDoIn f (ds ++ es) → MayDoIn f ds
 first-done None ds es m = tt
 first-done (Some f) ds es m =
-    let g = deed_breaches (turns_of f.outer f.variables f.intents) f.written in
+    let g = deed_breaches (forall_scope f.outer f.variables f.intents) f.written in
     first_empty (each g ds) (each g es) (sym (each-append g ds es) ∙ m)
 
 pub second-done : (f : Option Turning) (ds es : List Deed) → MayDoIn f (ds ++ es) → MayDoIn f es
 second-done None ds es m = tt
 second-done (Some f) ds es m =
-    let g = deed_breaches (turns_of f.outer f.variables f.intents) f.written in
+    let g = deed_breaches (forall_scope f.outer f.variables f.intents) f.written in
     second_empty (each g ds) (each g es) (sym (each-append g ds es) ∙ m)
 
 -- no forall stands in a forall

@@ -10,7 +10,7 @@ use Rattle.dpl_rules.specs.Assignments.{assignment_breaches, condition_breaches}
 use Rattle.dpl_rules.specs.Loops.{ForWord, ForallWord, header_breaches, with_breaches, behind, in_loop}
 use Rattle.dpl_rules.specs.Deeds.{expr_deeds, item_deeds}
 use Rattle.dpl_rules.specs.Doings.{with_deeds, stmt_deeds, body_deeds, stmts_deeds, else_deeds}
-use Rattle.dpl_rules.specs.Bodies.{turns_of, written_arrays, forall_breaches, promoted_breaches}
+use Rattle.dpl_rules.specs.Bodies.{forall_scope, written_arrays, forall_breaches, promoted_breaches}
 use Rattle.dpl_rules.specs.Breaches.{top, top_sight, in_forall, stmt_breaches, body_breaches, stmts_breaches, else_breaches}
 use Rattle.dpl_rules.proofs.Admission.{first_empty, second_empty}
 use Rattle.dpl_nodes.specs.Spots.{IsNear}
@@ -80,7 +80,7 @@ mutual
   runnable_stmt (Forall at xs word item intents body) None ss stands s w c h m =
       let inner = in_loop ss ForallWord xs item in
       let ds = body_deeds inner body in
-      let loop = turns_of ss xs intents in
+      let loop = forall_scope ss xs intents in
       let head = header_breaches ss ForallWord xs item in
       let intended = with_breaches ss intents in
       let told = forall_breaches loop ds in

@@ -11,7 +11,7 @@ use Rattle.dpl_rules.specs.Assignments.{condition_breaches}
 use Rattle.dpl_rules.specs.Loops.{ForWord, ForallWord, header_breaches, with_breaches, in_loop, behind}
 use Rattle.dpl_rules.specs.Deeds.{Deed, expr_deeds, item_deeds}
 use Rattle.dpl_rules.specs.Doings.{stmt_deeds, body_deeds, stmts_deeds, else_deeds}
-use Rattle.dpl_rules.specs.Bodies.{Turns, turns_of, written_arrays, each, deed_breaches, forall_breaches}
+use Rattle.dpl_rules.specs.Bodies.{ForallScope, forall_scope, written_arrays, each, deed_breaches, forall_breaches}
 use Rattle.dpl_rules.specs.Breaches.{in_forall, stmt_breaches, body_breaches, stmts_breaches, else_breaches}
 use Rattle.dpl_rules.proofs.Admission.{first_empty, second_empty}
 use Rattle.dpl_standing.specs.Standing.{Outside, InTurn, MayStand, BodyMayStand, AllMayStand, ElseMayStand}
@@ -21,7 +21,7 @@ each-append : (g : Deed → List Breach) (ds es : List Deed) → each g (ds ++ e
 each-append g [] es = refl
 each-append g (d ∷ ds) es = ap (λ cs. g d ++ cs) (each-append g ds es) ∙ sym (append_assoc (g d) (each g ds) (each g es))
 
-module _ (loop : Turns) (written : List Origin) where
+module _ (loop : ForallScope) (written : List Origin) where
   abbrev MayBeDone : List Deed → Type 0
   MayBeDone ds = each (deed_breaches loop written) ds ≡ []
 
@@ -99,7 +99,7 @@ mutual
   program-stands sight (Forall at xs word item intents body) c h =
       let inner = in_loop sight.scopes ForallWord xs item in
       let ds = body_deeds inner body in
-      let loop = turns_of sight.scopes xs intents in
+      let loop = forall_scope sight.scopes xs intents in
       let heads = header_breaches sight.scopes ForallWord xs item ++ with_breaches sight.scopes intents in
       let told = forall_breaches loop ds in
       let others = body_breaches (in_forall sight xs item intents) body in

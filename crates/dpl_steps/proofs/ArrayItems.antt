@@ -18,8 +18,8 @@ use Rattle.dpl_memory.specs.Memory.{whole_held, ArrayKind, Variable, Memory, var
 use Rattle.dpl_nodes.specs.declared.step.ArrayDeclaration.{ArrayDeclaration}
 use Rattle.dpl_nodes.specs.Steps.{placed_leaf, over_items, array_declared}
 use Rattle.dpl_frame.specs.Faults.{fault_view}
-use Rattle.dpl_loop.specs.declared.stop.Stop.{Stop as Halt}
-use Rattle.dpl_loop.specs.declared.stop.Stop.TheVariants as halt
+use Rattle.dpl_loop.specs.declared.stop.RunStop.{RunStop as Halt}
+use Rattle.dpl_loop.specs.declared.stop.RunStop.TheVariants as halt
 use Rattle.dpl_loop.specs.Runs.{RunsTo}
 use Rattle.dpl_values.specs.Elements.{within_at}
 use Rattle.dpl_elements.specs.Changes.{for_array_at}

@@ -12,8 +12,8 @@ use Rattle.dpl_language.specs.Declarations.{gathered}
 use Rattle.dpl_memory.specs.Memory.{Held, whole_held, with_word, held_with}
 use Rattle.dpl_contents.specs.Domains.{AreWritten}
 use Rattle.dpl_frame.specs.Faults.{fault_view}
-use Rattle.dpl_loop.specs.declared.stop.Stop.{Stop}
-use Rattle.dpl_loop.specs.declared.stop.Stop.TheVariants as stop
+use Rattle.dpl_loop.specs.declared.stop.RunStop.{RunStop}
+use Rattle.dpl_loop.specs.declared.stop.RunStop.TheVariants as stop
 use Rattle.dpl_steps.specs.Runs.{Names, Gathers}
 use Rattle.dpl_elements.proofs.Listed.{indices_in-distinct, with_word-behind}
 
@@ -104,7 +104,7 @@ module _ (value : Index → Result Value Fault) (rs : List TextRange) where
     gathered-next may e = next-with so_far.rest refl e
 
   -- a fault there is the fault of all
-  pub gathered-halts : (may more : Type 0) (t : Index) (left : List Index) (a : Held) (h : Stop) → (may → more) → AreGathered value rs (t ∷ left) a → Names may (Err h) (naming_value t (value t))
+  pub gathered-halts : (may more : Type 0) (t : Index) (left : List Index) (a : Held) (h : RunStop) → (may → more) → AreGathered value rs (t ∷ left) a → Names may (Err h) (naming_value t (value t))
       → Gathers more (Err h) rs (gathered value (indices_in rs))
   gathered-halts may more t left a (stop.Fault f) go so_far e =
       behind_words-fault rs [] (gathered value (indices_in rs)) (fault_view f)

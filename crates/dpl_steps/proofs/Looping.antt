@@ -11,7 +11,7 @@ use mathlib.Core.Path.{fun_ext}
 use Rattle.dpl_language.specs.Tree.{AfterComma, Op, ExprTree, ItemTree, VariablesTree, OneVariable, ManyVariables, IntentTree, If, While, For, Forall, Else, Stmts}
 use Rattle.dpl_language.specs.Values.{Value, Truth, truth, Range, Domain, Index, Fault, fault, Budget}
 use Rattle.dpl_language.specs.Ranges.{indices_in, size_in, loop_ranges}
-use Rattle.dpl_language.specs.Outcome.{Deeds, Outcome, Done, Stop as StopAt, Waits, Run, with_ok, with_value, then_do, choose, in_order, repeated}
+use Rattle.dpl_language.specs.Outcome.{Deeds, Outcome, Done, Stop, Waits, Run, with_ok, with_value, then_do, choose, in_order, repeated}
 use Rattle.dpl_language.specs.Environment.{Limits}
 use Rattle.dpl_language.specs.Phrases.{reduce_intents, intents_of}
 use Rattle.dpl_language.specs.Expressions.{value_of, item_of}
@@ -22,7 +22,7 @@ use Rattle.dpl_lowered.specs.LoweredStatements.{behind_comma, with_intents}
 use Rattle.dpl_memory.specs.Memory.{Variable, Memory, in_memory}
 use Rattle.dpl_nodes.specs.declared.step.Names.{Names}
 use Rattle.dpl_nodes.specs.Steps.{listed, variable_in, names_view}
-use Rattle.dpl_loop.specs.declared.stop.Stop.{Stop}
+use Rattle.dpl_loop.specs.declared.stop.RunStop.{RunStop}
 use Rattle.dpl_loop.specs.Runs.{RunsTo}
 use Rattle.dpl_loop.proofs.Ends.{then_do-halts, halts-alike}
 use Rattle.dpl_elements.specs.Turns.{in_turn, turn_in_memory, bound_at, index_turn, within, looped_over}
@@ -30,12 +30,12 @@ use Rattle.dpl_elements.specs.Turns.{in_turn, turn_in_memory, bound_at, index_tu
 -- RUNS ONE AFTER ANOTHER
 then_do-done : (o : Outcome Memory) → then_do o (λ s done. Done s done) ≡ o
 then_do-done (Done s done) = refl
-then_do-done (StopAt f done) = refl
+then_do-done (Stop f done) = refl
 then_do-done (Waits at c op done) = refl
 
 then_do-same : (o : Outcome Memory) (f g : Run Memory) → ((s : Memory) (done : Deeds) → f s done ≡ g s done) → then_do o f ≡ then_do o g
 then_do-same (Done s done) f g same = same s done
-then_do-same (StopAt f done) g h same = refl
+then_do-same (Stop f done) g h same = refl
 then_do-same (Waits at c op done) f g same = refl
 
 -- a scope does nothing of its own
@@ -48,7 +48,7 @@ pub in_turn-done : (turn : ℤ → Run Memory) (is : List ℤ) (k : ℕ) (i : �
 in_turn-done turn is k i s next done after at e =
     sym (ap (λ is. in_turn turn is s done) (drop-slice_get is k i at) ∙ ap (λ o. then_do o (in_turn turn (drop (k + 1) is))) e)
 
-pub in_turn-halts : (may : Type 0) (turn : ℤ → Run Memory) (is : List ℤ) (k : ℕ) (i : ℤ) (h : Stop) (s next : Memory) (done after : Deeds) → slice_get is k ≡ Some i → RunsTo may (Err h) next after (turn i s done)
+pub in_turn-halts : (may : Type 0) (turn : ℤ → Run Memory) (is : List ℤ) (k : ℕ) (i : ℤ) (h : RunStop) (s next : Memory) (done after : Deeds) → slice_get is k ≡ Some i → RunsTo may (Err h) next after (turn i s done)
     → RunsTo may (Err h) next after (in_turn turn (drop k is) s done)
 in_turn-halts may turn is k i h s next done after at e =
     halts-alike may h next next after (then_do (turn i s done) (in_turn turn (drop (k + 1) is))) (in_turn turn (drop k is) s done)
@@ -59,7 +59,7 @@ pub in_order-done : (turn : Index → Run Memory) (ts left : List Index) (t : In
     → in_order turn left next after ≡ in_order turn ts s done
 in_order-done turn ts left t s next done after at e = sym (ap (λ is. in_order turn is s done) at ∙ ap (λ o. then_do o (in_order turn left)) e)
 
-pub in_order-halts : (may : Type 0) (turn : Index → Run Memory) (ts left : List Index) (t : Index) (h : Stop) (s next : Memory) (done after : Deeds) → ts ≡ t ∷ left → RunsTo may (Err h) next after (turn t s done)
+pub in_order-halts : (may : Type 0) (turn : Index → Run Memory) (ts left : List Index) (t : Index) (h : RunStop) (s next : Memory) (done after : Deeds) → ts ≡ t ∷ left → RunsTo may (Err h) next after (turn t s done)
     → RunsTo may (Err h) next after (in_order turn ts s done)
 in_order-halts may turn ts left t h s next done after at e =
     halts-alike may h next next after (then_do (turn t s done) (in_order turn left)) (in_order turn ts s done)
@@ -119,7 +119,7 @@ module _ (limits : Limits) (xs : VariablesTree Variable) (body : Stmts Variable)
   exec-for at item s done = for-value at s done (item_of limits in_memory item None s)
 
   pub for-fault : (at : Place) (item : ItemTree Variable) (s : Memory) (done : Deeds) (f : Fault) → looped_over limits at item s ≡ Err f
-      → exec limits in_memory (For at xs nowhere item (listed body)) s done ≡ StopAt f done
+      → exec limits in_memory (For at xs nowhere item (listed body)) s done ≡ Stop f done
   for-fault at item s done f e = exec-for at item s done ∙ ap (λ r. with_value r for_by s done) e
 
   pub for-order : (at : Place) (item : ItemTree Variable) (s : Memory) (done : Deeds) (v : Value) → looped_over limits at item s ≡ Ok v
@@ -153,7 +153,7 @@ module _ (limits : Limits) (xs : VariablesTree Variable) (body : Stmts Variable)
         ∙ forall-value at s done (item_of limits in_memory item None s)
 
     pub forall-fault : (at : Place) (item : ItemTree Variable) (s : Memory) (done : Deeds) (f : Fault) → looped_over limits at item s ≡ Err f
-        → exec limits in_memory (Forall at xs nowhere item (with_intents is) (listed body)) s done ≡ StopAt f done
+        → exec limits in_memory (Forall at xs nowhere item (with_intents is) (listed body)) s done ≡ Stop f done
     forall-fault at item s done f e = exec-forall at item s done ∙ ap (λ r. with_value r (forall_by is) s done) e
 
     pub forall-order : (at : Place) (item : ItemTree Variable) (s : Memory) (done : Deeds) (v : Value) → looped_over limits at item s ≡ Ok v
@@ -214,7 +214,7 @@ module _ (limits : Limits) (names : Names) (body : Stmts Variable) where
 
 -- WHILES, by the turns that are left
 module _ (at : Place) (test : Memory → Result Bool Fault) (body : Run Memory) where
-  pub repeated-fault : (n : ℕ) (s : Memory) (done : Deeds) (f : Fault) → test s ≡ Err f → repeated n at test body s done ≡ StopAt f done
+  pub repeated-fault : (n : ℕ) (s : Memory) (done : Deeds) (f : Fault) → test s ≡ Err f → repeated n at test body s done ≡ Stop f done
   repeated-fault zero s done f e = rw e refl
   repeated-fault (suc n) s done f e = rw e refl
 
@@ -222,7 +222,7 @@ module _ (at : Place) (test : Memory → Result Bool Fault) (body : Run Memory) 
   repeated-ends zero s done e = rw e refl
   repeated-ends (suc n) s done e = rw e refl
 
-  pub repeated-past : (s : Memory) (done : Deeds) → test s ≡ Ok true → repeated zero at test body s done ≡ StopAt (fault Budget at) done
+  pub repeated-past : (s : Memory) (done : Deeds) → test s ≡ Ok true → repeated zero at test body s done ≡ Stop (fault Budget at) done
   repeated-past s done e = rw e refl
 
   pub repeated-turn : (n : ℕ) (s : Memory) (done : Deeds) → test s ≡ Ok true → repeated (suc n) at test body s done ≡ then_do (body s done) (repeated n at test body)

@@ -13,7 +13,7 @@ ghost use Rattle.dpl_elements.specs.Changes.{declared_memory, given_memory, assi
 
 use crate::reduce::{reduced_int, reduced_truth};
 use dpl_frame::{Arrays, FaultCode, Frame, Trap};
-use dpl_loop::Stop;
+use dpl_loop::RunStop;
 use dpl_loop::stop::told;
 use dpl_nodes::{BoolExpr, IntDeed, IntExpr, RangeExpr, Spot, TruthDeed};
 use dpl_strips::number::{difference, product, quotient, remainder, sum};
@@ -25,7 +25,7 @@ fn declare_truth<G: Team>(
     e: &BoolExpr<'_>,
     frame: &mut Frame<G::Kept>,
     gate: &G,
-) -> Result<(), Stop>
+) -> Result<(), RunStop>
     requires ready { G.is_ready gate.now }
     ensures memory { Gives (MayRefuseSome (G.may_refuse gate.now)) (λ v. frame.new.memory) result
         (declared_memory frame.old.limits (truth_leaf slot) (One (truth_view e.now)) frame.old.memory) }
@@ -43,7 +43,7 @@ pub(crate) fn declare_range<G: Team>(
     e: &RangeExpr<'_>,
     frame: &mut Frame<G::Kept>,
     gate: &G,
-) -> Result<(), Stop>
+) -> Result<(), RunStop>
     requires ready { G.is_ready gate.now }
     ensures memory { Gives (MayRefuseSome (G.may_refuse gate.now)) (λ v. frame.new.memory) result
         (declared_memory frame.old.limits (range_leaf slot) (range_item e.now) frame.old.memory) }
@@ -60,7 +60,7 @@ fn config_truth<G: Team>(
     e: &BoolExpr<'_>,
     frame: &mut Frame<G::Kept>,
     gate: &G,
-) -> Result<(), Stop>
+) -> Result<(), RunStop>
     requires ready { G.is_ready gate.now }
     ensures memory { Gives (MayRefuseSome (G.may_refuse gate.now)) (λ v. frame.new.memory) result
         (given_memory frame.old.limits (truth_leaf slot) (One (truth_view e.now)) (in_memory.given (truth_leaf slot) frame.old.memory) frame.old.memory) }
@@ -158,7 +158,7 @@ fn reduce_truth<G: Team>(
     e: &BoolExpr<'_>,
     frame: &mut Frame<G::Kept>,
     gate: &G,
-) -> Result<(), Stop>
+) -> Result<(), RunStop>
     requires ready { G.is_ready gate.now }
     ensures memory { Gives (MayRefuseSome (G.may_refuse gate.now)) (λ v. frame.new.memory) result
         (assigned_memory frame.old.limits (truth_leaf slot) SetReduce nowhere (One (truth_view e.now)) frame.old.memory) }
@@ -178,7 +178,7 @@ pub(crate) fn change_int<G: Team>(
     e: &IntExpr<'_>,
     frame: &mut Frame<G::Kept>,
     gate: &G,
-) -> Result<(), Stop>
+) -> Result<(), RunStop>
     requires ready { G.is_ready gate.now }
     ensures memory { Gives (MayRefuseSome (G.may_refuse gate.now)) (λ v. frame.new.memory) result
         (int_memory frame.old.limits deed.now slot (One (int_view e.now)) frame.old.memory) }
@@ -200,7 +200,7 @@ pub(crate) fn change_truth<G: Team>(
     e: &BoolExpr<'_>,
     frame: &mut Frame<G::Kept>,
     gate: &G,
-) -> Result<(), Stop>
+) -> Result<(), RunStop>
     requires ready { G.is_ready gate.now }
     ensures memory { Gives (MayRefuseSome (G.may_refuse gate.now)) (λ v. frame.new.memory) result
         (truth_memory frame.old.limits deed slot (One (truth_view e.now)) frame.old.memory) }

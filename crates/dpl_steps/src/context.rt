@@ -17,7 +17,7 @@ ghost use Rattle.dpl_steps.specs.Refusals.{MayRefuseForall, MayRefuseForallLine}
 
 use dpl_elements::Crew;
 use dpl_frame::Frame;
-use dpl_loop::Stop;
+use dpl_loop::RunStop;
 use dpl_nodes::{Argument, DomainExpr, Intent, Names, RangeExpr, Spot, Step};
 
 /// Where statements stand: outside of all foralls, or in a turn of one; and the gate that reductions there ask.
@@ -41,7 +41,7 @@ pub trait Context: Crew {
         arguments: &[Argument<'_>],
         frame: &Frame<Self::Kept>,
         out: &mut Self::Out,
-    ) -> Result<(), Stop>
+    ) -> Result<(), RunStop>
         requires ready { Self.is_ready self.now }
         ensures { (done : Deeds)
             → RunsTo (MayRefuseReduction (Self.may_refuse self.now) frame.now (EachInArguments arguments.now)) result frame.now.memory (having out.new done)
@@ -60,7 +60,7 @@ pub trait Context: Crew {
         intents: &[Intent],
         body: &[Step<'t>],
         frame: &mut Frame<Self::Kept>,
-    ) -> Result<(), Stop>
+    ) -> Result<(), RunStop>
         requires ready { Self.is_ready self.now }
         ensures ends { (done : Deeds)
             → RunsTo (MayRefuseForallLine (Self.may_refuse self.now) frame.old at.now over.now (steps_in InTurn body.now)) result frame.new.memory done
@@ -81,7 +81,7 @@ pub trait Context: Crew {
         intents: &[Intent],
         body: &[Step<'t>],
         frame: &mut Frame<Self::Kept>,
-    ) -> Result<(), Stop>
+    ) -> Result<(), RunStop>
         requires ready { Self.is_ready self.now }
         ensures ends { (done : Deeds)
             → RunsTo (MayRefuseForall (Self.may_refuse self.now) frame.old at.now over.now (steps_in InTurn body.now)) result frame.new.memory done

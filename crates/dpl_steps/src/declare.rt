@@ -29,7 +29,7 @@ use crate::lineage::derived;
 use dpl_contents::ArrayWords;
 use dpl_domain::Index;
 use dpl_frame::{Arrays, DomainWord, Frame, Trap};
-use dpl_loop::{Gate, OpenGate, Stop};
+use dpl_loop::{Gate, OpenGate, RunStop};
 use dpl_map::Map;
 use dpl_nodes::{ArrayDeclaration, DeclaredOver, Initial, PromotedInt, PromotedTruth, Spot};
 use dpl_strips::index::coordinate;
@@ -46,7 +46,7 @@ fn domain_over<G: Team>(
     from: &Spot,
     frame: &Frame<G::Kept>,
     gate: &G,
-) -> Result<DomainWord, Stop>
+) -> Result<DomainWord, RunStop>
     requires ready { G.is_ready gate.now }
     ensures { Gives (MayRefuseReduction (G.may_refuse gate.now) frame.now (EachInOver over.now)) DomainValue result
         (domain_of frame.now.limits in_memory from.now (over_items over.now) frame.now.memory) }
@@ -74,14 +74,14 @@ trait Elements {
     ghost element: { Self → Limits → Memory → Index → Result Value Fault };
 
     // No gate is asked for it.
-    fn word<A: Arrays>(&self, index: &Index, frame: &Frame<A>) -> Result<i64, Stop>
+    fn word<A: Arrays>(&self, index: &Index, frame: &Frame<A>) -> Result<i64, RunStop>
         ensures { Gives ⊥ (λ w. w) result (kept_word (element self.now frame.now.limits frame.now.memory index.now)) };
 }
 
 impl<'t> Elements for PromotedInt<'t> {
     ghost element = { λ e limits s t. value_of limits in_memory (promoted_int EachTurn e) (Some t) s };
 
-    fn word<A: Arrays>(&self, index: &Index, frame: &Frame<A>) -> Result<i64, Stop> {
+    fn word<A: Arrays>(&self, index: &Index, frame: &Frame<A>) -> Result<i64, RunStop> {
         promoted_int_value(self, index, frame, &Alone::at(&OpenGate))
     }
 }
@@ -89,7 +89,7 @@ impl<'t> Elements for PromotedInt<'t> {
 impl<'t> Elements for PromotedTruth<'t> {
     ghost element = { λ e limits s t. value_of limits in_memory (promoted_truth EachTurn e) (Some t) s };
 
-    fn word<A: Arrays>(&self, index: &Index, frame: &Frame<A>) -> Result<i64, Stop> {
+    fn word<A: Arrays>(&self, index: &Index, frame: &Frame<A>) -> Result<i64, RunStop> {
         Ok(i64::from(promoted_truth_value(self, index, frame, &Alone::at(&OpenGate))?.get()))
     }
 }
@@ -102,11 +102,11 @@ fn entered<A: Arrays, E: Elements, G: Gate>(
     map: &Map,
     frame: &Frame<A>,
     gate: &G,
-) -> Result<i64, Stop>
+) -> Result<i64, RunStop>
     ensures { Names (G.may_refuse gate.now (owner map.now index) place) result (naming_value index (E.element e.now frame.now.limits frame.now.memory index)) }
 {
     if !gate.enter(map.owner(index), place) {
-        return Err(Stop::Gate);
+        return Err(RunStop::Gate);
     }
     match e.word(&index, frame) {
         Ok(word) => Ok(word),
@@ -121,7 +121,7 @@ fn gathered<A: Arrays, E: Elements, G: Gate>(
     domain: DomainWord,
     frame: &Frame<A>,
     gate: &G,
-) -> Result<ArrayWords, Stop>
+) -> Result<ArrayWords, RunStop>
     requires { too_large domain ≡ false }
     ensures { Gathers (MayRefuse (G.may_refuse gate.now) map.now domain) result domain
         (gathered (E.element e.now frame.now.limits frame.now.memory) (indices_in domain)) }
@@ -148,7 +148,7 @@ fn declare_ints<G: Team>(
     domain: DomainWord,
     frame: &mut Frame<G::Kept>,
     gate: &G,
-) -> Result<(), Stop>
+) -> Result<(), RunStop>
     requires ready { G.is_ready gate.now }
     requires small { too_large domain ≡ false }
     ensures ends { (done : Deeds) → RunsTo (MayRefuseElements (G.may_refuse gate.now) frame.old map.now domain (EachInInts e.now)) result frame.new.memory done
@@ -181,7 +181,7 @@ fn declare_truths<G: Team>(
     domain: DomainWord,
     frame: &mut Frame<G::Kept>,
     gate: &G,
-) -> Result<(), Stop>
+) -> Result<(), RunStop>
     requires ready { G.is_ready gate.now }
     requires small { too_large domain ≡ false }
     ensures ends { (done : Deeds)
@@ -212,7 +212,7 @@ fn declare_zeros<A: Arrays>(
     map: &Map,
     domain: DomainWord,
     frame: &mut Frame<A>,
-) -> Result<(), Stop>
+) -> Result<(), RunStop>
     requires { too_large domain ≡ false }
     ensures ends { (k : Kind) (done : Deeds) → RunEnds result frame.new.memory done (declared_without frame.old.limits d.now k domain frame.old.memory done) }
     ensures limits { frame.new.limits ≡ frame.old.limits }
@@ -237,7 +237,7 @@ fn declare_over<G: Team>(
     domain: DomainWord,
     frame: &mut Frame<G::Kept>,
     gate: &G,
-) -> Result<(), Stop>
+) -> Result<(), RunStop>
     requires ready { G.is_ready gate.now }
     requires small { too_large domain ≡ false }
     ensures ends { (done : Deeds) → RunsTo
@@ -265,7 +265,7 @@ pub(crate) fn declare_array<G: Team>(
     d: &ArrayDeclaration<'_>,
     frame: &mut Frame<G::Kept>,
     gate: &G,
-) -> Result<(), Stop>
+) -> Result<(), RunStop>
     requires ready { G.is_ready gate.now }
     ensures ends { (done : Deeds) → RunsTo (MayRefuseArray (G.may_refuse gate.now) frame.old d.now) result frame.new.memory done
         (exec frame.old.limits in_memory (array_declared d.now) frame.old.memory done) }

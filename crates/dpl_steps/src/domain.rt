@@ -17,7 +17,7 @@ ghost use Rattle.dpl_loop.specs.Runs.{RunsTo};
 
 use crate::lineage::{with_value, without_value};
 use dpl_frame::{Arrays, DomainWord, FaultCode, Frame, Trap};
-use dpl_loop::Stop;
+use dpl_loop::RunStop;
 use dpl_nodes::{Beginning, DomainExpr, DomainName, Placing, Rank, Spot};
 use dpl_values::{Team, domain_value};
 use std::alloc::AllocError;
@@ -32,7 +32,7 @@ fn declare_value<G: Team>(
     placing: &Placing<'_>,
     frame: &mut Frame<G::Kept>,
     gate: &G,
-) -> Result<(), Stop>
+) -> Result<(), RunStop>
     requires ready { G.is_ready gate.now }
     ensures ends { (done : Deeds) → RunsTo (MayRefuseSome (G.may_refuse gate.now)) result frame.new.memory done
         (exec frame.old.limits in_memory (domain_declared slot (Value e.entry) placing.now) frame.old.memory done) }
@@ -74,7 +74,7 @@ pub(crate) fn declare_domain<G: Team>(
     placing: &Placing<'_>,
     frame: &mut Frame<G::Kept>,
     gate: &G,
-) -> Result<(), Stop>
+) -> Result<(), RunStop>
     requires ready { G.is_ready gate.now }
     ensures ends { (done : Deeds) → RunsTo (MayRefuseSome (G.may_refuse gate.now)) result frame.new.memory done
         (exec frame.old.limits in_memory (domain_declared slot beginning.now placing.now) frame.old.memory done) }
@@ -124,7 +124,7 @@ pub(crate) fn set_domain<G: Team>(
     e: &DomainExpr<'_>,
     frame: &mut Frame<G::Kept>,
     gate: &G,
-) -> Result<(), Stop>
+) -> Result<(), RunStop>
     requires ready { G.is_ready gate.now }
     ensures ends { (done : Deeds)
         → RunsTo (MayRefuseSome (G.may_refuse gate.now)) result frame.new.memory done

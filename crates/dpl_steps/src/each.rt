@@ -23,7 +23,7 @@ use crate::context::Context;
 use crate::statement::run;
 use dpl_domain::Index;
 use dpl_frame::{Arrays, DomainWord, Frame, Trap};
-use dpl_loop::Stop;
+use dpl_loop::RunStop;
 use dpl_nodes::{DomainExpr, Names, Spot, Step};
 use dpl_values::budget::within_budget;
 use dpl_values::{Team, domain_value};
@@ -39,7 +39,7 @@ pub fn domain_indices<G: Team>(
     over: &DomainExpr<'_>,
     frame: &Frame<G::Kept>,
     gate: &G,
-) -> Result<DomainWord, Stop>
+) -> Result<DomainWord, RunStop>
     requires ready { G.is_ready gate.now }
     ensures { Gives (MayRefuseReduction (G.may_refuse gate.now) frame.now (EachInDomain over.now)) DomainValue result
         (looped_over frame.now.limits at.now (One (domain_view over.now)) frame.now.memory) }
@@ -111,7 +111,7 @@ fn domain_turn<'t, C: Context>(
     context: &C,
     frame: &mut Frame<C::Kept>,
     out: &mut C::Out,
-) -> Result<(), Stop>
+) -> Result<(), RunStop>
     requires ready { C.is_ready context.now }
     ensures ends { (done : Deeds) → RunsTo (MayRefuseSome (C.may_refuse context.now)) result frame.new.memory (C.having out.new done)
         (index_turn frame.old.limits names.now (steps_in C.standing body.now) index frame.old.memory (C.having out.old done)) }
@@ -131,7 +131,7 @@ fn domain_turns<'t, C: Context>(
     context: &C,
     frame: &mut Frame<C::Kept>,
     out: &mut C::Out,
-) -> Result<(), Stop>
+) -> Result<(), RunStop>
     requires ready { C.is_ready context.now }
     ensures ends { (done : Deeds) → RunsTo (MayRefuseSome (C.may_refuse context.now)) result frame.new.memory (C.having out.new done)
         (in_order (index_turn frame.old.limits names.now (steps_in C.standing body.now)) (indices_in domain) frame.old.memory (C.having out.old done)) }
@@ -155,7 +155,7 @@ pub(crate) fn for_each<'t, C: Context>(
     context: &C,
     frame: &mut Frame<C::Kept>,
     out: &mut C::Out,
-) -> Result<(), Stop>
+) -> Result<(), RunStop>
     requires ready { C.is_ready context.now }
     ensures ends { (done : Deeds) → RunsTo (MayRefuseSome (C.may_refuse context.now)) result frame.new.memory (C.having out.new done)
         (exec frame.old.limits in_memory (ForTree at.now (names_view names.now) nowhere (One (domain_view over.now))

@@ -15,7 +15,7 @@ ghost use Rattle.dpl_loop.specs.Runs.{RunsTo};
 use crate::change::{change_truth, declare_range};
 use dpl_elements::{set_element, set_truth_element};
 use dpl_frame::Frame;
-use dpl_loop::Stop;
+use dpl_loop::RunStop;
 use dpl_nodes::{ArrayName, BoolExpr, IndexExpr, IntExpr, RangeExpr, Spot, TruthTarget};
 use dpl_tree::Assign;
 use dpl_values::Team;
@@ -27,7 +27,7 @@ pub(crate) fn range<G: Team>(
     e: &RangeExpr<'_>,
     frame: &mut Frame<G::Kept>,
     gate: &G,
-) -> Result<(), Stop>
+) -> Result<(), RunStop>
     requires ready { G.is_ready gate.now }
     ensures ends { (done : Deeds)
         → RunsTo (MayRefuseSome (G.may_refuse gate.now)) result frame.new.memory done
@@ -44,7 +44,7 @@ pub(crate) fn truth<G: Team>(
     e: &BoolExpr<'_>,
     frame: &mut Frame<G::Kept>,
     gate: &G,
-) -> Result<(), Stop>
+) -> Result<(), RunStop>
     requires ready { G.is_ready gate.now }
     ensures ends { (done : Deeds) → RunsTo (MayRefuseSome (G.may_refuse gate.now)) result frame.new.memory done
         (exec frame.old.limits in_memory (truth_stated target.now (truth_view e.now)) frame.old.memory done) }
@@ -66,7 +66,7 @@ pub(crate) fn element<G: Team>(
     e: &IntExpr<'_>,
     frame: &mut Frame<G::Kept>,
     gate: &G,
-) -> Result<(), Stop>
+) -> Result<(), RunStop>
     requires ready { G.is_ready gate.now }
     ensures ends { (done : Deeds)
         → RunsTo (MayRefuseSome (G.may_refuse gate.now)) result frame.new.memory done

@@ -26,7 +26,7 @@ use crate::each::for_each;
 use crate::simple;
 use dpl_elements::{set_array, set_truth_array};
 use dpl_frame::{FaultCode, Frame, RangeWord, Trap};
-use dpl_loop::Stop;
+use dpl_loop::RunStop;
 use dpl_loop::stop::told;
 use dpl_nodes::{BoolExpr, Else, RangeExpr, Spot, Step};
 use dpl_range::Range;
@@ -42,14 +42,14 @@ pub fn range_indices<G: Team>(
     over: &RangeExpr<'_>,
     frame: &Frame<G::Kept>,
     gate: &G,
-) -> Result<RangeWord, Stop>
+) -> Result<RangeWord, RunStop>
     requires ready { G.is_ready gate.now }
     ensures { Gives (MayRefuseReduction (G.may_refuse gate.now) frame.now (EachInRange over.now)) as_range result
         (looped_over frame.now.limits at.now (range_item over.now) frame.now.memory) }
 {
     let range = range_value(over, frame, gate)?;
     if frame.budget() < range.range.size() {
-        return Err(Stop::from(Trap::new(FaultCode::Budget, *at)));
+        return Err(RunStop::from(Trap::new(FaultCode::Budget, *at)));
     }
     Ok(range)
 }
@@ -65,7 +65,7 @@ pub fn run<'t, C: Context>(
     context: &C,
     frame: &mut Frame<C::Kept>,
     out: &mut C::Out,
-) -> Result<(), Stop>
+) -> Result<(), RunStop>
     requires ready { C.is_ready context.now }
     ensures ends { (done : Deeds) → RunsTo (MayRefuseSome (C.may_refuse context.now)) result frame.new.memory (C.having out.new done)
         (exec_all frame.old.limits in_memory (steps_in C.standing steps.now) frame.old.memory (C.having out.old done)) }
@@ -84,7 +84,7 @@ fn statement<'t, C: Context>(
     context: &C,
     frame: &mut Frame<C::Kept>,
     out: &mut C::Out,
-) -> Result<(), Stop>
+) -> Result<(), RunStop>
     requires ready { C.is_ready context.now }
     ensures ends { (done : Deeds) → RunsTo (MayRefuseSome (C.may_refuse context.now)) result frame.new.memory (C.having out.new done)
         (exec frame.old.limits in_memory (step_in C.standing step.now) frame.old.memory (C.having out.old done)) }
@@ -167,7 +167,7 @@ fn for_loop<'t, C: Context>(
     context: &C,
     frame: &mut Frame<C::Kept>,
     out: &mut C::Out,
-) -> Result<(), Stop>
+) -> Result<(), RunStop>
     requires ready { C.is_ready context.now }
     ensures ends { (done : Deeds) → RunsTo (MayRefuseSome (C.may_refuse context.now)) result frame.new.memory (C.having out.new done)
         (exec frame.old.limits in_memory (ForTree at.now (variable_in slot) nowhere (range_item over.now)
@@ -185,7 +185,7 @@ fn alternative<'t, C: Context>(
     context: &C,
     frame: &mut Frame<C::Kept>,
     out: &mut C::Out,
-) -> Result<(), Stop>
+) -> Result<(), RunStop>
     requires ready { C.is_ready context.now }
     ensures ends { (done : Deeds) → RunsTo (MayRefuseSome (C.may_refuse context.now)) result frame.new.memory (C.having out.new done)
         (exec_else frame.old.limits in_memory (else_in C.standing otherwise.now) frame.old.memory (C.having out.old done)) }
@@ -207,7 +207,7 @@ fn while_loop<'t, C: Context>(
     context: &C,
     frame: &mut Frame<C::Kept>,
     out: &mut C::Out,
-) -> Result<(), Stop>
+) -> Result<(), RunStop>
     requires ready { C.is_ready context.now }
     ensures ends { (done : Deeds) → RunsTo (MayRefuseSome (C.may_refuse context.now)) result frame.new.memory (C.having out.new done)
         (repeated frame.old.limits.budget at.now (holds frame.old.limits in_memory (truth_view condition.now))
@@ -236,7 +236,7 @@ fn turn<'t, C: Context>(
     context: &C,
     frame: &mut Frame<C::Kept>,
     out: &mut C::Out,
-) -> Result<(), Stop>
+) -> Result<(), RunStop>
     requires ready { C.is_ready context.now }
     requires place { k < length (members_of range) }
     ensures ends { (i : ℤ) (done : Deeds) → slice_get (members_of range) k ≡ Some i
@@ -261,7 +261,7 @@ fn turns<'t, C: Context>(
     context: &C,
     frame: &mut Frame<C::Kept>,
     out: &mut C::Out,
-) -> Result<(), Stop>
+) -> Result<(), RunStop>
     requires ready { C.is_ready context.now }
     ensures ends { (done : Deeds) → RunsTo (MayRefuseSome (C.may_refuse context.now)) result frame.new.memory (C.having out.new done)
         (in_turn (turn_in_memory frame.old.limits slot (steps_in C.standing body.now)) (members_of range) frame.old.memory (C.having out.old done)) }

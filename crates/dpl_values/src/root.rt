@@ -17,7 +17,7 @@ use crate::values::index_value;
 use dpl_domain::Index;
 use dpl_frame::{Arrays, Distribution, DomainWord, Frame, Trap, Turn};
 use dpl_layout::least;
-use dpl_loop::{OpenGate, Stop};
+use dpl_loop::{OpenGate, RunStop};
 use dpl_nodes::{DomainExpr, MapExpr, StartExpr};
 use std::alloc::AllocError;
 
@@ -54,7 +54,7 @@ fn start<A: Arrays>(e: &StartExpr<'_>, frame: &Frame<A>) -> Result<Option<Index>
     match e {
         StartExpr::Index(t) => match index_value(t, frame, &Alone::at(&OpenGate)) {
             Ok(index) => Ok(Some(index)),
-            Err(Stop::Fault(_)) => Ok(None),
+            Err(RunStop::Fault(_)) => Ok(None),
             Err(_) => Err(AllocError),
         },
         StartExpr::Least(d, _, _) => match domain_argument(d, frame)? {

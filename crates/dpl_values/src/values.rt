@@ -14,7 +14,7 @@ use crate::team::Team;
 use crate::{expression, promoted};
 use dpl_domain::Index;
 use dpl_frame::{DomainWord, FaultCode, Frame, RangeWord, Trap, Truth, Turn};
-use dpl_loop::Stop;
+use dpl_loop::RunStop;
 use dpl_nodes::{
     BoolExpr, DomainExpr, IndexExpr, IntExpr, PromotedInt, PromotedTruth, RangeExpr, RangesExpr,
     Spot,
@@ -26,14 +26,14 @@ use dpl_nodes::{
 /// The fault of a part: `F2` at a division by zero, `F4` at an end of an empty range, `F1` at an array's name, `F5` at `reduce`;
 /// or the gate refused an entry of a reduction, as for each value here.
 #[inline(always)]
-pub fn int_value<G: Team>(e: &IntExpr<'_>, frame: &Frame<G::Kept>, gate: &G) -> Result<i64, Stop>
+pub fn int_value<G: Team>(e: &IntExpr<'_>, frame: &Frame<G::Kept>, gate: &G) -> Result<i64, RunStop>
     requires ready { G.is_ready gate.now }
     ensures { Gives (MayRefuseReduction (G.may_refuse gate.now) frame.now (EachInInt e.now)) Int result (int_in frame.now e.now) }
 {
     let mut turn = Turn::Absent;
     match operand(e, frame, gate, &mut turn) {
         Ok(value) => Ok(value),
-        Err(alarm) => Err(Stop::of(alarm, &turn)),
+        Err(alarm) => Err(RunStop::of(alarm, &turn)),
     }
 }
 
@@ -45,14 +45,14 @@ pub fn truth_value<G: Team>(
     e: &BoolExpr<'_>,
     frame: &Frame<G::Kept>,
     gate: &G,
-) -> Result<Truth, Stop>
+) -> Result<Truth, RunStop>
     requires ready { G.is_ready gate.now }
     ensures { Gives (MayRefuseReduction (G.may_refuse gate.now) frame.now (EachInTruth e.now)) TruthValue result (truth_in frame.now e.now) }
 {
     let mut turn = Turn::Absent;
     match expression::truth_value(e, frame, gate, &mut turn) {
         Ok(value) => Ok(value),
-        Err(alarm) => Err(Stop::of(alarm, &turn)),
+        Err(alarm) => Err(RunStop::of(alarm, &turn)),
     }
 }
 
@@ -64,14 +64,14 @@ pub fn range_value<G: Team>(
     e: &RangeExpr<'_>,
     frame: &Frame<G::Kept>,
     gate: &G,
-) -> Result<RangeWord, Stop>
+) -> Result<RangeWord, RunStop>
     requires ready { G.is_ready gate.now }
     ensures { Gives (MayRefuseReduction (G.may_refuse gate.now) frame.now (EachInRange e.now)) as_range result (range_in frame.now e.now) }
 {
     let mut turn = Turn::Absent;
     match expression::range_value(e, frame, gate, &mut turn) {
         Ok(value) => Ok(value),
-        Err(alarm) => Err(Stop::of(alarm, &turn)),
+        Err(alarm) => Err(RunStop::of(alarm, &turn)),
     }
 }
 
@@ -83,14 +83,14 @@ pub fn domain_value<G: Team>(
     e: &DomainExpr<'_>,
     frame: &Frame<G::Kept>,
     gate: &G,
-) -> Result<DomainWord, Stop>
+) -> Result<DomainWord, RunStop>
     requires ready { G.is_ready gate.now }
     ensures { Gives (MayRefuseReduction (G.may_refuse gate.now) frame.now (EachInDomain e.now)) DomainValue result (domain_in frame.now e.now) }
 {
     let mut turn = Turn::Absent;
     match expression::domain_value(e, frame, gate, &mut turn) {
         Ok(value) => Ok(value),
-        Err(alarm) => Err(Stop::of(alarm, &turn)),
+        Err(alarm) => Err(RunStop::of(alarm, &turn)),
     }
 }
 
@@ -102,14 +102,14 @@ pub fn index_value<G: Team>(
     t: &IndexExpr<'_>,
     frame: &Frame<G::Kept>,
     gate: &G,
-) -> Result<Index, Stop>
+) -> Result<Index, RunStop>
     requires ready { G.is_ready gate.now }
     ensures { Gives (MayRefuseReduction (G.may_refuse gate.now) frame.now (EachInIndex t.now)) (λ t. t) result (index_in frame.now t.now) }
 {
     let mut turn = Turn::Absent;
     match expression::index_value(t, frame, gate, &mut turn) {
         Ok(value) => Ok(value),
-        Err(alarm) => Err(Stop::of(alarm, &turn)),
+        Err(alarm) => Err(RunStop::of(alarm, &turn)),
     }
 }
 
@@ -122,7 +122,7 @@ pub fn literal<G: Team>(
     ranges: &RangesExpr<'_>,
     frame: &Frame<G::Kept>,
     gate: &G,
-) -> Result<DomainWord, Stop>
+) -> Result<DomainWord, RunStop>
     requires ready { G.is_ready gate.now }
     ensures { Gives (MayRefuseReduction (G.may_refuse gate.now) frame.now (EachInRanges ranges.now)) DomainValue result
         (literal_in frame.now at.now ranges.now) }
@@ -130,7 +130,7 @@ pub fn literal<G: Team>(
     let mut turn = Turn::Absent;
     match expression::literal(at, ranges, frame, gate, &mut turn) {
         Ok(value) => Ok(value),
-        Err(alarm) => Err(Stop::of(alarm, &turn)),
+        Err(alarm) => Err(RunStop::of(alarm, &turn)),
     }
 }
 
@@ -156,14 +156,14 @@ pub fn promoted_int_value<G: Team>(
     index: &Index,
     frame: &Frame<G::Kept>,
     gate: &G,
-) -> Result<i64, Stop>
+) -> Result<i64, RunStop>
     requires ready { G.is_ready gate.now }
     ensures { Gives (MayRefuseReduction (G.may_refuse gate.now) frame.now (EachInInts e.now)) Int result (int_at frame.now e.now index.now) }
 {
     let mut turn = Turn::Absent;
     match promoted::operand(e, index, frame, gate, &mut turn) {
         Ok(value) => Ok(value),
-        Err(alarm) => Err(Stop::of(alarm, &turn)),
+        Err(alarm) => Err(RunStop::of(alarm, &turn)),
     }
 }
 
@@ -176,13 +176,13 @@ pub fn promoted_truth_value<G: Team>(
     index: &Index,
     frame: &Frame<G::Kept>,
     gate: &G,
-) -> Result<Truth, Stop>
+) -> Result<Truth, RunStop>
     requires ready { G.is_ready gate.now }
     ensures { Gives (MayRefuseReduction (G.may_refuse gate.now) frame.now (EachInTruths e.now)) TruthValue result (truth_at frame.now e.now index.now) }
 {
     let mut turn = Turn::Absent;
     match promoted::promoted_truth_value(e, index, frame, gate, &mut turn) {
         Ok(value) => Ok(value),
-        Err(alarm) => Err(Stop::of(alarm, &turn)),
+        Err(alarm) => Err(RunStop::of(alarm, &turn)),
     }
 }

@@ -15,7 +15,7 @@ ghost use Rattle.dpl_rules.specs.Bodies.{is_scalar_or_domain as is_scalar_or_dom
 ghost use Rattle.dpl_scopes.specs.View.{declared_view};
 ghost use Rattle.dpl_scopes.specs.Types.{of_type};
 ghost use Rattle.dpl_deeds.specs.View.{index_view};
-ghost use Rattle.dpl_bodies.specs.View.{turns_view, next_names};
+ghost use Rattle.dpl_bodies.specs.View.{scope_view, next_names};
 ghost use Rattle.dpl_bodies.specs.Intents.{operator_of, intent_operator as intent_operator_of, next_operator as next_operator_of};
 
 use dpl_deeds::IndexPart;
@@ -25,7 +25,7 @@ use dpl_tree::{Assign, Intent, Name, NextIntent, NextName, Op, Variables, With};
 
 /// A forall, as the rules on its body see it.
 #[derive(Clone, Copy)]
-pub struct Turns<'t> {
+pub struct ForallScope<'t> {
     /// How many scopes are open around it.
     pub depth: usize,
     pub variables: Variables<'t>,
@@ -130,24 +130,24 @@ fn operator(with: &Option<With<'_>>, name: &[u8]) -> Option<Op>
     }
 }
 
-impl<'t> Turns<'t> {
+impl<'t> ForallScope<'t> {
     /// Whether a declaration stands outside of the forall; its variables aren't among these.
     pub fn is_outer(&self, declared: Declared<'_>) -> bool
-        ensures { result ≡ is_outer_of (turns_view self.now) (declared_view declared.entry) }
+        ensures { result ≡ is_outer_of (scope_view self.now) (declared_view declared.entry) }
     {
         declared.origin.depth <= self.depth
     }
 
     /// Whether a declaration stands outside of the forall, and is an array.
     pub fn is_outer_array(&self, declared: Declared<'_>) -> bool
-        ensures { result ≡ is_outer_array_of (turns_view self.now) (declared_view declared.entry) }
+        ensures { result ≡ is_outer_array_of (scope_view self.now) (declared_view declared.entry) }
     {
         self.is_outer(declared) && is_array(declared.value_type)
     }
 
     // Whether a declaration is the forall's variable of a name: it stands in the scope that the forall opens.
     fn is_variable(&self, name: &Name<'_>, declared: Declared<'_>) -> bool
-        ensures { result ≡ is_variable_of (turns_view self.now) name.now.text.now (declared_view declared.entry) }
+        ensures { result ≡ is_variable_of (scope_view self.now) name.now.text.now (declared_view declared.entry) }
     {
         declared.origin.depth > self.depth
             && declared.origin.depth - self.depth == 1
@@ -156,7 +156,7 @@ impl<'t> Turns<'t> {
 
     // Whether an index is the forall's variable of a name.
     fn is_variable_at(&self, name: &Name<'_>, part: IndexPart<'_>) -> bool
-        ensures { result ≡ is_variable_at_of (turns_view self.now) name.now.text.now (index_view part.entry) }
+        ensures { result ≡ is_variable_at_of (scope_view self.now) name.now.text.now (index_view part.entry) }
     {
         match part {
             IndexPart::AtName(declared) => self.is_variable(name, declared),
@@ -166,7 +166,7 @@ impl<'t> Turns<'t> {
 
     // Whether indices are the forall's variables of these names, in order.
     fn are_variables(&self, names: &[NextName<'_>], parts: &[IndexPart<'_>]) -> bool
-        ensures { result ≡ are_variables_of (turns_view self.now) (next_names (map next_name_view names.now)) (map index_view parts.now) }
+        ensures { result ≡ are_variables_of (scope_view self.now) (next_names (map next_name_view names.now)) (map index_view parts.now) }
     {
         match names.split_first() {
             None => parts.is_empty(),
@@ -180,7 +180,7 @@ impl<'t> Turns<'t> {
 
     /// Whether an index list is the forall's own: its variables in order, or its tuple name.
     pub fn is_own(&self, parts: &[IndexPart<'_>]) -> bool
-        ensures { result ≡ is_own_of (turns_view self.now) (map index_view parts.now) }
+        ensures { result ≡ is_own_of (scope_view self.now) (map index_view parts.now) }
     {
         match parts.split_first() {
             None => false,
@@ -195,7 +195,7 @@ impl<'t> Turns<'t> {
     /// Whether a declaration is that of a reduce variable of the forall.
     #[tactic(auto, using(crate::proofs::Intents::reduces_operator))]
     pub fn is_reduced(&self, declared: Declared<'_>) -> bool
-        ensures { result ≡ is_reduced_of (turns_view self.now).reducing (declared_view declared.entry) }
+        ensures { result ≡ is_reduced_of (scope_view self.now).reducing (declared_view declared.entry) }
     {
         self.is_outer(declared) && operator(&self.with, declared.origin.name).is_some()
     }
@@ -203,7 +203,7 @@ impl<'t> Turns<'t> {
     // Whether an assignment goes on with the operator of the intent that names the name.
     #[tactic(auto, using(crate::proofs::Intents::goes_on_in_operator))]
     fn goes_on_in(&self, declared: Declared<'_>, sign: Assign) -> bool
-        ensures { result ≡ goes_on_in_of (turns_view self.now).reducing.variables (declared_view declared.entry).origin.name sign }
+        ensures { result ≡ goes_on_in_of (scope_view self.now).reducing.variables (declared_view declared.entry).origin.name sign }
     {
         match operator(&self.with, declared.origin.name) {
             None => false,
@@ -214,7 +214,7 @@ impl<'t> Turns<'t> {
     /// Whether a name may be so assigned: it isn't outer, or is no scalar, locale or domain, or the assignment goes on with
     /// its intent.
     pub fn may_change(&self, declared: Declared<'_>, sign: Assign) -> bool
-        ensures { result ≡ may_change_of (turns_view self.now) (declared_view declared.entry) sign }
+        ensures { result ≡ may_change_of (scope_view self.now) (declared_view declared.entry) sign }
     {
         !self.is_outer(declared)
             || !is_scalar_or_domain(declared.value_type)
