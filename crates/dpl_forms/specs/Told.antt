@@ -6,9 +6,9 @@ use Rattle.dpl_syntax.specs.declared.refusal.Breach.{Breach}
 use Rattle.dpl_language.specs.Tree.{Items, DomainTypeTree, TypeTree, InitialTree, DeclareTree}
 use Rattle.dpl_language.specs.Declarations.{type_of as written_type}
 use Rattle.dpl_language.specs.Names.{Text}
-use Rattle.dpl_rules.specs.Types.{Origin, ValueType, Domain}
-use Rattle.dpl_rules.specs.Verdicts.{broken_by}
-use Rattle.dpl_rules.specs.Declarations.{config_initial, config_type, untyped_initial, type_breaches, typed_initial, declared_type, type_given, written_breaches, config_breaches}
+use Rattle.dpl_rules.specs.Types.{Origin, ValueType, Domain, is_any_scalar}
+use Rattle.dpl_rules.specs.Verdicts.{broken_by, where_given, wanted}
+use Rattle.dpl_rules.specs.Declarations.{config_type, untyped_initial, type_breaches, typed_initial, declared_type, type_given, written_breaches, config_breaches, init_part}
 use Rattle.dpl_rules.specs.Sights.{Scopes}
 use Rattle.dpl_rules.specs.Operators.{over_verdict}
 use Rattle.dpl_rules.specs.Expressions.{item_parts, items_breaches}
@@ -25,7 +25,7 @@ domain_given d = Some (Domain d.rank false)
 
 -- what a `config const` owes besides
 abbrev pub config_told : Scopes → Bool → Option (InitialTree Text) → List Breach
-config_told scopes true initial = config_initial scopes initial
+config_told scopes true initial = where_given initial (λ i. wanted is_any_scalar (init_part scopes i.init))
 config_told scopes false initial = []
 
 abbrev pub config_type_told : Bool → TypeTree Text → List Breach

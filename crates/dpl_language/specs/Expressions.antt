@@ -23,12 +23,9 @@ leading [] = pos 0
 leading (i ∷ is) = i
 
 -- `Locales[k]`: k is from 0 to N - 1, else it is F6 at `Locales`
-abbrev pub locale_at : ℕ → Place → ℤ → Result Value Fault
-locale_at locales at k =
-    if int_le (pos 0) k && int_lt k (pos locales) then Ok (Locale k) else Err (fault NoLocale at)
-
 abbrev pub locale_of : {N : Type 0} → ℕ → Base N → ℤ → Result Value Fault
-locale_of locales (BaseLocales at) k = locale_at locales at k
+locale_of locales (BaseLocales at) k =
+    if int_le (pos 0) k && int_lt k (pos locales) then Ok (Locale k) else Err (fault NoLocale at)
 locale_of locales _ k = Ok (Locale k)
 
 -- the fold of a reduction's operator over the values at some indices, in their order

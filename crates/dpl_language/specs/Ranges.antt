@@ -42,10 +42,6 @@ size_in (r ∷ rs) = count_in r * size_in rs
 abbrev pub past_limit : ℤ → Bool
 past_limit z = not (is_bound z)
 
--- a stride is outside its limits
-abbrev pub bad_stride : ℤ → Bool
-bad_stride z = not (is_stride z)
-
 -- a domain has at most 2^40 indices, and an array at most 2^24 elements
 abbrev pub too_many : List TextRange → Bool
 too_many rs = nat_lt (2 ^ 40) (size_in rs)
@@ -73,7 +69,7 @@ bounded at dots low z =
 -- the range with its stride: a bad one is F3 at `by`
 abbrev pub strided_by : Place → ℤ → TextRange → Result TextRange Fault
 strided_by at stride r =
-    if bad_stride stride then Err (fault PastLimit at)
+    if not (is_stride stride) then Err (fault PastLimit at)
     else Ok (record { value = record { low = r.value.low; high = r.value.high; stride = stride }; strided = true })
 
 -- a domain of these ranges: too many indices are F3 at the opening bracket
@@ -171,16 +167,12 @@ method_of LowBound at v = low_of at v
 method_of DomainOf at v = Ok (Domain (ranges_in v))
 method_of Id at v = Ok (Int (number v))
 
--- the numbers of the locales: 0 to N - 1
-abbrev pub locale_range : ℕ → TextRange
-locale_range locales = unstrided (pos 0) (pos locales -ℤ pos 1)
-
--- what a loop runs over: the ranges of a range or a domain, or the locales
+-- what a loop runs over: the ranges of a range or a domain, or the numbers of the locales: 0 to N - 1
 abbrev pub loop_ranges : ℕ → Value → List TextRange
 loop_ranges locales (Range r) = r ∷ []
 loop_ranges locales (Domain rs) = rs
 loop_ranges locales (Array k rs) = rs
-loop_ranges locales AllLocales = locale_range locales ∷ []
+loop_ranges locales AllLocales = unstrided (pos 0) (pos locales -ℤ pos 1) ∷ []
 loop_ranges locales _ = empty_domain 1
 
 -- the turn's one variable where a loop runs over numbers or indices: an int for one coordinate, else a tuple

@@ -2,11 +2,12 @@
 -- A name is declared once in the only scope, so that a later declaration hides none.
 use Rattle.std.proofs.Common.{◌≡◌, suc, ◌+◌, Bool, true, false, [], ◌∷◌, length, Option, Some, None, Result, Ok, Err, refl, sym, ap, subst}
 use Rattle.std.specs.Prelude.{bytes_eq, if◌then◌else◌, IfOk}
+use Rattle.std.specs.Option.{option_or}
 use Rattle.std.proofs.lemmas.Slice.Eq.{bytes_eq-Decides}
 use Rattle.dpl_syntax.specs.declared.place.Place.{Place}
 use Rattle.dpl_language.specs.Tree.{DeclareTree, StmtTree, Declare}
 use Rattle.dpl_language.specs.Names.{Text}
-use Rattle.dpl_rules.specs.Sights.{Declared, Scope, Scopes, find, or_else, lookup, type_declared, declared_here, add}
+use Rattle.dpl_rules.specs.Sights.{Declared, Scope, Scopes, find, lookup, type_declared, declared_here, add}
 use Rattle.dpl_rules.specs.Sound.{is_configured}
 use Rattle.dpl_rules.specs.Declarations.{sort_of, declared_by}
 use Rattle.dpl_scopes.specs.Slots.{count_in, place_in, slot_or, slot_in}
@@ -31,12 +32,12 @@ one-add d (s ∷ t ∷ ss) h = absurd h
 abbrev bound_by : Declared → Scope → Scopes → Text → Bool → Bound
 bound_by d s ss x t = record {
   text = x;
-  variable = leaf_by (kind_by (type_declared (or_else (if t then Some d else find s x) (lookup ss x)))) (slot_or (if t then Some (length s + suc (count_in ss)) else place_in s x (suc (count_in ss))) (slot_in ss x));
-  shape = shape_by (type_declared (or_else (if t then Some d else find s x) (lookup ss x)));
+  variable = leaf_by (kind_by (type_declared (option_or (if t then Some d else find s x) (lookup ss x)))) (slot_or (if t then Some (length s + suc (count_in ss)) else place_in s x (suc (count_in ss))) (slot_in ss x));
+  shape = shape_by (type_declared (option_or (if t then Some d else find s x) (lookup ss x)));
 }
 
 abbrev GivenBy : Start → Declared → Scope → Scopes → Text → Bool → Type 0
-GivenBy start d s ss x t = IsConfig (or_else (if t then Some d else find s x) (lookup ss x)) → IsGiven start (bound_by d s ss x t)
+GivenBy start d s ss x t = IsConfig (option_or (if t then Some d else find s x) (lookup ss x)) → IsGiven start (bound_by d s ss x t)
 
 pub given-before : (start : Start) (d : Declared) (ss : Scopes) → declared_here ss d.origin.name ≡ false → IsOneScope ss → AreGiven start (add d ss) → AreGiven start ss
 given-before start d [] alone h given = absurd h
@@ -46,7 +47,7 @@ given-before start d (s ∷ []) alone h given = λ x c. other x c (bytes_eq x d.
     other : (x : Text) → IsConfig (lookup (s ∷ []) x) → (t : Bool) → bytes_eq x d.origin.name ≡ t → GivenBy start d s [] x t → IsGiven start (bound_in (s ∷ []) x)
     other x c true e g =
         let none : find s x ≡ None = subst (λ y. find s y ≡ None) (sym ((bytes_eq-Decides x d.origin.name).0 e)) (unfound (find s d.origin.name) alone) in
-        absurd (subst (λ o. IsConfig (or_else o None)) none c)
+        absurd (subst (λ o. IsConfig (option_or o None)) none c)
     other x c false e g = g c
 
 same-text : (x : Text) → bytes_eq x x ≡ true

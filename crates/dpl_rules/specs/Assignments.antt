@@ -76,9 +76,6 @@ call_word (ReadCall at w from upto) = at
 call_word (ResetCall at from upto) = at
 call_word (WriteCall at w from e upto) = at
 
-abbrev pub argument_type : Place → Option ValueType → Option Kind → List Breach
-argument_type at t k = where_given k (λ k. owed_type (is_scalar k) at t)
-
 module _ (sight : Sight) where
   -- an element that is written: only an array has some, and a cell is C12 already
   abbrev pub element_of : Placed Text → Place → Exprs Text → Verdict
@@ -97,7 +94,7 @@ module _ (sight : Sight) where
 
   abbrev pub call_argument : Option Kind → CallTree Text → List Breach
   call_argument k (WriteCall at w from e upto) =
-      expr_breaches sight.scopes e ++ argument_type (first_of e) (type_of sight.scopes e) k
+      expr_breaches sight.scopes e ++ where_given k (λ k. owed_type (is_scalar k) (first_of e) (type_of sight.scopes e))
   call_argument k _ = []
 
   abbrev pub call_breaches : Placed Text → CallTree Text → List Breach

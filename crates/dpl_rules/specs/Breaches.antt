@@ -66,11 +66,7 @@ abbrev mutual
 -- ---- C13: at most 4,096 names, and at most 64 cells, are declared by `const` or `var`; loop variables don't count
 abbrev mutual
   pub declarations : StmtTree Text → List (DeclareTree Text)
-  declarations (Nothing at) = []
   declarations (Declare d) = d ∷ []
-  declarations (Assigned target sign item semicolon) = []
-  declarations (Call x dot call semicolon) = []
-  declarations (Write w) = []
   declarations (Block from ts upto) = all_declarations ts
   declarations (If at e first second) = body_declarations first ++ else_declarations second
   declarations (While at e body) = body_declarations body
@@ -78,6 +74,7 @@ abbrev mutual
   declarations (Forall at xs word item intents body) = body_declarations body
   declarations (Coforall at xs word item intents body) = body_declarations body
   declarations (On at e body) = body_declarations body
+  declarations _ = []
 
   pub body_declarations : Body Text → List (DeclareTree Text)
   body_declarations (WordBody at t) = declarations t

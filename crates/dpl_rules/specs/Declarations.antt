@@ -130,11 +130,8 @@ module _ (scopes : Scopes) where
   abbrev pub initial_type : Option (InitialTree Text) → Option ValueType
   initial_type initial = option_and_then {T = InitialTree Text} {U = ValueType} (λ i. (init_part i.init).type) initial
 
-  abbrev pub config_initial : Option (InitialTree Text) → List Breach
-  config_initial initial = where_given initial (λ i. wanted is_any_scalar (init_part i.init))
-
   abbrev pub config_by : Option (TypeTree Text) → Option (InitialTree Text) → List Breach
-  config_by None initial = config_initial initial
+  config_by None initial = where_given initial (λ i. wanted is_any_scalar (init_part i.init))
   config_by (Some t) initial = config_type t
 
   abbrev pub config_breaches : Option Place → DeclareTree Text → List Breach

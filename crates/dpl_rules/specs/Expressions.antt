@@ -1,6 +1,7 @@
 -- The types of expressions, and where they break the rules on names, types and ranks.
 -- A part's breaches are its own and those of its parts; each form's own come from the one verdict of its rule.
 use Rattle.std.specs.Prelude.{true, false, if◌then◌else◌, List, [], ◌∷◌, ◌++◌, is_some, option_map, option_and_then, Option, Some, None}
+use Rattle.std.specs.Option.{option_or}
 use Rattle.dpl_syntax.specs.declared.place.Place.{Place}
 use Rattle.dpl_language.specs.Tree.{Kind, ExprTree, Number, TruthWord, Named, LocalesWord, LocaleCount, HereWord, Grouped, DomainLiteral, Prefixed, Reduced, Chain, Postfixed, ItemTree, One, RangeItem, Stride, NoStride, By, Links, NoLinks, Link, Posts, NoPosts, Post, PostTree, Brackets, Rounds, Dotted, MethodTree, Plainly, Dim, Contains, Expand, CellRead, Items, FirstItem, MoreItems, NoItems, NextItem, Exprs, FirstExpr, MoreExprs, NoExprs, NextExpr}
 use Rattle.dpl_language.specs.Names.{Text}
@@ -10,7 +11,7 @@ use Rattle.dpl_syntax.specs.declared.refusal.Code.TheVariants.{UnknownName, Wron
 use Rattle.dpl_syntax.specs.declared.refusal.Breach.{Breach}
 use Rattle.dpl_rules.specs.Verdicts.{Part, part, Verdict, Has, Breaks, type_by, broken_by, breach, mistyped, with_type}
 use Rattle.dpl_rules.specs.Places.{first_of, first_of_item, last_of, last_of_post}
-use Rattle.dpl_rules.specs.Sights.{Declared, Scopes, or_else, lookup, type_declared}
+use Rattle.dpl_rules.specs.Sights.{Declared, Scopes, lookup, type_declared}
 use Rattle.dpl_rules.specs.Operators.{prefix_verdict, reduction_verdict, infix_verdict, range_verdict, ranges_verdict, square_verdict, round_verdict, index_rank, word_verdict, dim_verdict, contains_verdict, expand_verdict}
 
 -- ---- names: known ones alone (C1), and no cell as a plain variable (C12)
@@ -30,18 +31,15 @@ module _ {N : Type 0} where
 abbrev pub locales_or : Option Place → Option ValueType → Option ValueType
 locales_or at t = if is_some at then Some AllLocales else t
 
-abbrev pub none_where : Option Place → List Breach → List Breach
-none_where at bs = if is_some at then [] else bs
+abbrev pub none_where : {A : Type 0} → Option A → List Breach → List Breach
+none_where x bs = if is_some x then [] else bs
 
 -- what a name's cell holds, where it is a cell; a read of it has that type, and breaks nothing
 abbrev pub cell_declared : Option ValueType → Option Kind
 cell_declared t = option_and_then cell_of t
 
 abbrev pub read_or_type : Option Kind → Option ValueType → Option ValueType
-read_or_type k t = or_else (option_map Scalar k) t
-
-abbrev pub read_or_breaches : Option Kind → List Breach → List Breach
-read_or_breaches k bs = if is_some k then [] else bs
+read_or_type k t = option_or (option_map Scalar k) t
 
 -- ---- types
 module _ (scopes : Scopes) where
@@ -175,4 +173,4 @@ module _ (scopes : Scopes) where
   side_part item = record { at = first_of_item item; type = read_or_type (kind_read (item_read item)) (item_type item) }
 
   abbrev pub side_breaches : ItemTree Text → List Breach
-  side_breaches item = read_or_breaches (kind_read (item_read item)) (item_breaches item)
+  side_breaches item = none_where (kind_read (item_read item)) (item_breaches item)

@@ -1,13 +1,13 @@
 -- The rules of operators, indices, slices and methods: what each takes, and the type that it gives.
 -- C3 stands at the operator, the bracket or the method's name that doesn't take its operands or what is before it.
 use Rattle.std.specs.Prelude.{ℕ, nat_lt, ◌==◌, Bool, true, false, not, ◌&&◌, ◌||◌, if◌then◌else◌, List, [], ◌∷◌, ◌++◌, length, option_map, Option, Some, None}
+use Rattle.std.specs.Option.{option_or}
 use Rattle.dpl_syntax.specs.declared.place.Place.{Place}
 use Rattle.dpl_language.specs.Tree.{Kind, IntKind, BoolKind, Prefix, Minus, Not, Infix, Less, LessEqual, Greater, GreaterEqual, Equal, NotEqual, And, Or, Op, Word, Size, LowBound, DomainOf, Id}
 use Rattle.dpl_rules.specs.Types.{Over, ValueType, Scalar, Range, Domain, Array, Promoted, Locale, AllLocales, an_int, a_bool, same_kind, domain_of, array_of, tuple_of, is_locale, is_range, is_domain, has, Operand, operand_of, agrees, is_int, is_bool, is_plain_range, op_kind}
 use Rattle.dpl_syntax.specs.declared.refusal.Code.TheVariants.{WrongType, WrongRank}
 use Rattle.dpl_syntax.specs.declared.refusal.Breach.{Breach}
 use Rattle.dpl_rules.specs.Verdicts.{Part, Verdict, Has, breach, owed, mistyped, misranked, has_if, judged, with_type, needs, where_given, all_known, wanted, each_wanted}
-use Rattle.dpl_rules.specs.Sights.{or_else}
 
 -- ---- operators
 -- what the operands of an operator give at each index of the whole arrays in them, or by themselves where there are none
@@ -36,10 +36,7 @@ reduced at k o = needs at o (λ o. reduced_over at k o.kind o.over)
 abbrev pub reduction_verdict : Place → Op → Option ValueType → Verdict
 reduction_verdict at op t = with_type t (λ t. reduced at (op_kind op) (operand_of t))
 
--- what two operands are over together: the arrays in them are all of one index set
-abbrev pub over_both : Option Over → Option Over → Option Over
-over_both a b = or_else a b
-
+-- the arrays in two operands are all of one index set
 abbrev pub agree : Option Over → Option Over → Bool
 agree None other = true
 agree (Some over) other = agrees over other
@@ -62,10 +59,10 @@ taken And = Bools
 taken Or = Bools
 taken _ = Ints IntKind
 
--- operands of these kinds, perhaps promoted
+-- operands of these kinds, perhaps promoted; together they are over what the first is over, or else the second
 abbrev pub between : Place → Kind → Kind → Kind → Option Operand → Option Operand → Verdict
 between at left right result (Some a) (Some b) =
-    has_if (same_kind left a.kind && same_kind right b.kind && agree a.over b.over) (over_arrays (over_both a.over b.over) result) at
+    has_if (same_kind left a.kind && same_kind right b.kind && agree a.over b.over) (over_arrays (option_or a.over b.over) result) at
 between at left right result _ _ = mistyped at
 
 -- operands of the same kind

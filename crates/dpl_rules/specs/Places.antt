@@ -1,13 +1,8 @@
 -- The tokens at which breaches are told: the first of an expression, and the last of what stands before a bracket.
 use Rattle.dpl_syntax.specs.declared.place.Place.{Place}
-use Rattle.std.specs.Prelude.{Option, Some, None}
+use Rattle.std.specs.Prelude.{unwrap_or}
 use Rattle.dpl_language.specs.Tree.{ExprTree, Number, TruthWord, Named, LocalesWord, LocaleCount, HereWord, Grouped, DomainLiteral, Prefixed, Reduced, Chain, Postfixed, ItemTree, One, RangeItem, Links, NoLinks, Link, Posts, NoPosts, Post, PostTree, Brackets, Rounds, Dotted, MethodTree, Plainly, Dim, Contains, Expand, CellRead}
 use Rattle.dpl_language.specs.Tree.{DeclareTree, VariablesTree, OneVariable, ManyVariables}
-
--- a declaration begins with `config`, if it has it
-abbrev pub first_or : Option Place → Place → Place
-first_or None at = at
-first_or (Some config) at = config
 
 module _ {N : Type 0} where
   -- ---- first tokens
@@ -33,8 +28,9 @@ module _ {N : Type 0} where
   first_of_variables (OneVariable x) = x.at
   first_of_variables (ManyVariables from xs upto) = from
 
+  -- a declaration begins with `config`, if it has it
   abbrev pub first_of_declaration : DeclareTree N → Place
-  first_of_declaration d = first_or d.config d.at
+  first_of_declaration d = unwrap_or d.config d.at
 
   -- ---- last tokens
   abbrev pub last_of_method : MethodTree N → Place
@@ -53,20 +49,16 @@ module _ {N : Type 0} where
   last_of_posts last NoPosts = last
   last_of_posts last (Post p rest) = last_of_posts (last_of_post p) rest
 
+  -- what isn't listed is one token
   abbrev mutual
     pub last_of : ExprTree N → Place
-    last_of (Number at n) = at
-    last_of (TruthWord at b) = at
-    last_of (Named x) = x.at
-    last_of (LocalesWord at) = at
-    last_of (LocaleCount at) = at
-    last_of (HereWord at) = at
     last_of (Grouped from item upto) = upto
     last_of (DomainLiteral from items upto) = upto
     last_of (Prefixed at op e) = last_of e
     last_of (Reduced at op word e) = last_of e
     last_of (Chain e rest) = last_of_links (last_of e) rest
     last_of (Postfixed e posts) = last_of_posts (last_of e) posts
+    last_of e = first_of e
 
     pub last_of_links : Place → Links N → Place
     last_of_links last NoLinks = last

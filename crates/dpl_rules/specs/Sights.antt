@@ -1,6 +1,7 @@
 -- What a place of a program has in sight: a list of scopes, the innermost first, each with its declarations.
 -- A name stands for its innermost declaration, from that declaration's end to the end of its scope.
 use Rattle.std.specs.Prelude.{ℕ, nat_le, Bool, true, false, ◌&&◌, bytes_eq, if◌then◌else◌, List, [], ◌∷◌, length, option_and_then, Option, Some, None, is_some}
+use Rattle.std.specs.Option.{option_or}
 use Rattle.dpl_language.specs.Tree.{Op}
 use Rattle.dpl_language.specs.Names.{Text}
 use Rattle.dpl_rules.specs.Types.{Origin, ValueType}
@@ -29,15 +30,10 @@ abbrev pub find : Scope → Text → Option Declared
 find [] x = None
 find (d ∷ ds) x = if bytes_eq x d.origin.name then Some d else find ds x
 
--- the first of two that there is
-abbrev pub or_else : {A : Type 0} → Option A → Option A → Option A
-or_else None other = other
-or_else (Some x) other = Some x
-
 -- the innermost declaration of a name
 abbrev pub lookup : Scopes → Text → Option Declared
 lookup [] x = None
-lookup (s ∷ ss) x = or_else (find s x) (lookup ss x)
+lookup (s ∷ ss) x = option_or (find s x) (lookup ss x)
 
 -- a name that is declared in the innermost scope already
 abbrev pub declared_here : Scopes → Text → Bool

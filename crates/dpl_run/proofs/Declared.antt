@@ -2,12 +2,13 @@
 -- So what is left at its end is an int, a truth value, a range or a domain.
 use Rattle.std.proofs.Common.{true, false, [], ◌∷◌, Some, None}
 use Rattle.std.specs.Prelude.{bytes_eq, if◌then◌else◌}
+use Rattle.std.specs.Option.{option_or}
 use Rattle.dpl_language.specs.Tree.{StmtTree, Nothing, Declare, Assigned, Call, Write, Block, If, While, For, Forall, Coforall, On, Stmts, NoStmts, Then}
 use Rattle.dpl_language.specs.Names.{Text}
 use Rattle.dpl_rules.specs.Breaches.{top}
 use Rattle.dpl_rules.specs.Declarations.{declared_by}
 use Rattle.dpl_rules.specs.Loops.{behind}
-use Rattle.dpl_rules.specs.Sights.{Declared, Scopes, find, or_else, lookup, add}
+use Rattle.dpl_rules.specs.Sights.{Declared, Scopes, find, lookup, add}
 use Rattle.dpl_rules.specs.Sound.{behind_all}
 use Rattle.dpl_runnable.specs.Runnable.{IsRunnableTop, AreRunnableTops}
 use Rattle.dpl_run.specs.Leaving.{IsLeft, AreLeft}
@@ -16,8 +17,8 @@ pub top-left : AreLeft top
 top-left = λ x. tt
 
 add-left : (d : Declared) (ss : Scopes) → IsLeft (Some d) → AreLeft ss → AreLeft (add d ss)
-add-left d [] is h = λ x. elim (bytes_eq x d.origin.name) as (λ b. IsLeft (or_else (if b then Some d else None) None)) [ true ↦ is | false ↦ tt ]
-add-left d (s ∷ ss) is h = λ x. elim (bytes_eq x d.origin.name) as (λ b. IsLeft (or_else (if b then Some d else find s x) (lookup ss x))) [ true ↦ is | false ↦ h x ]
+add-left d [] is h = λ x. elim (bytes_eq x d.origin.name) as (λ b. IsLeft (option_or (if b then Some d else None) None)) [ true ↦ is | false ↦ tt ]
+add-left d (s ∷ ss) is h = λ x. elim (bytes_eq x d.origin.name) as (λ b. IsLeft (option_or (if b then Some d else find s x) (lookup ss x))) [ true ↦ is | false ↦ h x ]
 
 behind-left : (t : StmtTree Text) (ss : Scopes) → IsRunnableTop ss t → AreLeft ss → AreLeft (behind ss t)
 behind-left (Nothing at) ss r h = h

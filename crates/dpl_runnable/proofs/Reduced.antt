@@ -2,6 +2,7 @@
 -- `reduce=` to one of them is to the variable outside, whatever the body declares.
 use Rattle.std.proofs.Common.{◌≡◌, ℕ, ◌<◌, ◌≤◌, max, Bool, true, false, List, [], ◌∷◌, ◌++◌, length, is_some, Option, Some, None, refl, sym, ap, ◌∙◌, subst, arith, leb-true}
 use Rattle.std.specs.Prelude.{bytes_eq, not, if◌then◌else◌}
+use Rattle.std.specs.Option.{option_or}
 use Rattle.std.proofs.lemmas.Option.{none-some}
 use Rattle.std.proofs.lemmas.Slice.Eq.{bytes_eq-Decides}
 use Rattle.dpl_syntax.specs.declared.place.Place.{Place}
@@ -12,7 +13,7 @@ use Rattle.dpl_language.specs.Phrases.{parts, reduce_intents, intents_of}
 use Rattle.dpl_agreement.specs.Renamed.{renamed_intents}
 use Rattle.dpl_rules.specs.Types.{ValueType, Scalar, is_cell, has, is_scalar, op_kind}
 use Rattle.dpl_rules.specs.Verdicts.{breach, owed, owed_type}
-use Rattle.dpl_rules.specs.Sights.{LoopVariable, Declared, Scope, Scopes, lookup, type_declared, origin_in, is_constant, is_outside, reduces, enter, find, or_else, add}
+use Rattle.dpl_rules.specs.Sights.{LoopVariable, Declared, Scope, Scopes, lookup, type_declared, origin_in, is_constant, is_outside, reduces, enter, find, add}
 use Rattle.dpl_rules.specs.Loops.{is_among, reduce_intent, ref_intent, intent_breaches, with_breaches, add_variables, variables_of, reducing_in, LoopWord, typed_variable, over_type, in_loop}
 use Rattle.dpl_rules.specs.Assignments.{may_reduce_in}
 use Rattle.dpl_rules.proofs.Admission.{first_empty, second_empty}
@@ -181,16 +182,16 @@ lookup-name : (ss : Scopes) (x : Text) (d : Declared) → lookup ss x ≡ Some d
 lookup-name [] x d e = absurd cc
 lookup-name (s ∷ ss) x d e = by (find s x) e (find-name s x d) (lookup-name ss x d)
   where
-    by : (o : Option Declared) → or_else o (lookup ss x) ≡ Some d → (o ≡ Some d → x ≡ d.origin.name) → (lookup ss x ≡ Some d → x ≡ d.origin.name) → x ≡ d.origin.name
+    by : (o : Option Declared) → option_or o (lookup ss x) ≡ Some d → (o ≡ Some d → x ≡ d.origin.name) → (lookup ss x ≡ Some d → x ≡ d.origin.name) → x ≡ d.origin.name
     by None e own others = others e
     by (Some c) e own others = own e
 
 -- ---- one more declaration
 lookup-add : (d : Declared) (ss : Scopes) (x : Text) → lookup (add d ss) x ≡ (if bytes_eq x d.origin.name then Some d else lookup ss x)
 lookup-add d [] x =
-    elim (bytes_eq x d.origin.name) as (λ t. or_else (if t then Some d else None) None ≡ (if t then Some d else None)) [ true ↦ refl | false ↦ refl ]
+    elim (bytes_eq x d.origin.name) as (λ t. option_or (if t then Some d else None) None ≡ (if t then Some d else None)) [ true ↦ refl | false ↦ refl ]
 lookup-add d (s ∷ ss) x =
-    elim (bytes_eq x d.origin.name) as (λ t. or_else (if t then Some d else find s x) (lookup ss x) ≡ (if t then Some d else or_else (find s x) (lookup ss x)))
+    elim (bytes_eq x d.origin.name) as (λ t. option_or (if t then Some d else find s x) (lookup ss x) ≡ (if t then Some d else option_or (find s x) (lookup ss x)))
     [ true ↦ refl | false ↦ refl ]
 
 length-add : (d : Declared) (ss : Scopes) → length (add d ss) ≡ max (length ss) 1

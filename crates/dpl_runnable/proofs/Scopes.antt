@@ -2,6 +2,7 @@
 -- again; and so has each in a loop's body.
 use Rattle.std.proofs.Common.{◌≡◌, ℕ, ◌==◌, Bool, true, false, List, [], ◌∷◌, ◌++◌, Option, Some, None, refl, sym, ap, ◌∙◌, subst, arith}
 use Rattle.std.specs.Prelude.{nat_lt, nat_le, ◌&&◌, ◌||◌, bytes_eq, if◌then◌else◌}
+use Rattle.std.specs.Option.{option_or}
 use Rattle.std.proofs.lemmas.Option.{none-some}
 use Rattle.std.proofs.lemmas.Bool.Decides.{nat_tests}
 use Rattle.dpl_syntax.specs.declared.place.Place.{Place}
@@ -18,8 +19,8 @@ use Rattle.dpl_syntax.specs.declared.refusal.Code.TheVariants.{WrongType, WrongR
 use Rattle.dpl_rules.specs.Types.{Origin, ValueType, Scalar, Range, Domain, Array, Promoted, Tuple, Locale, AllLocales, Cell, is_domain, an_int, cell_of}
 use Rattle.dpl_rules.specs.Verdicts.{owed, owed_type, breach}
 use Rattle.dpl_rules.specs.Places.{first_of_item, first_of_variables}
-use Rattle.dpl_rules.specs.Sights.{Declared, LoopVariable, Scopes, find, or_else, lookup, type_declared, origin_in, add, enter}
-use Rattle.dpl_rules.specs.Expressions.{locales_or, none_where, item_type, item_breaches, cell_declared, read_or_type, read_or_breaches, kind_read, side_part, side_breaches}
+use Rattle.dpl_rules.specs.Sights.{Declared, LoopVariable, Scopes, find, lookup, type_declared, origin_in, add, enter}
+use Rattle.dpl_rules.specs.Expressions.{locales_or, none_where, item_type, item_breaches, cell_declared, read_or_type, kind_read, side_part, side_breaches}
 use Rattle.dpl_rules.specs.Maps.{mapped_breaches}
 use Rattle.dpl_rules.specs.Declarations.{type_rank, is_kept, is_untyped, unless_refused, declared_type, type_breaches, init_part, untyped_breaches, typed_initial, config_breaches, written_breaches, type_given, declaration_breaches, declared_by}
 use Rattle.dpl_rules.specs.Loops.{LoopWord, ForWord, ForallWord, CoforallWord, over_domains, over_locales, runs_over, one_type, fits_variables, variable_type, typed_variable, header_of, over_type, over_breaches, variables_once, variables_of, add_variables, header_breaches, in_loop, behind}
@@ -43,8 +44,8 @@ top-variables x d h = absurd (none-some d h)
 pub enter-variables : (scopes : Scopes) → AreVariables scopes → AreVariables (enter scopes)
 enter-variables scopes names x d h = names x d h
 
-found-variable : (b : Bool) (d : Declared) (o p : Option Declared) → IsNamed d.type → ((c : Declared) → or_else o p ≡ Some c → IsNamed c.type)
-    → (c : Declared) → or_else (if b then Some d else o) p ≡ Some c → IsNamed c.type
+found-variable : (b : Bool) (d : Declared) (o p : Option Declared) → IsNamed d.type → ((c : Declared) → option_or o p ≡ Some c → IsNamed c.type)
+    → (c : Declared) → option_or (if b then Some d else o) p ≡ Some c → IsNamed c.type
 found-variable true d o p variable others c h = subst (λ (c : Declared). IsNamed c.type) (some-same d c h) variable
 found-variable false d o p variable others c h = others c h
 
@@ -167,7 +168,7 @@ module _ (scopes : Scopes) (P : Place → Type 0) (names : AreVariables scopes) 
   side-item item = ap (λ o. read_or_type o (item_type scopes item)) (unread (item_read item))
 
   pub runnable_side : (item : ItemTree Text) → ItemSpelt P ⊥ item → UntaskedItem item → side_breaches scopes item ≡ [] → RunnableItem scopes P names item
-  runnable_side item s c h = runnable_item scopes P names item s c (subst (λ o. read_or_breaches o (item_breaches scopes item) ≡ []) (unread (item_read item)) h)
+  runnable_side item s c h = runnable_item scopes P names item s c (subst (λ o. none_where o (item_breaches scopes item) ≡ []) (unread (item_read item)) h)
 
   side-variable : (item : ItemTree Text) → ItemSpelt P ⊥ item → UntaskedItem item → side_breaches scopes item ≡ [] → IsVariable (side_part scopes item).type
   side-variable item s c h = subst IsVariable (sym (side-item item)) (runnable_side item s c h).variable

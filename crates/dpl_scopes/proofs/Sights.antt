@@ -2,14 +2,15 @@
 -- The definitions go by cases on whether a scope is open; these lemmas don't.
 use Rattle.std.proofs.Common.{◌≡◌, max, true, false, [], ◌∷◌, length, drop, Some, None, is_some, refl, arith}
 use Rattle.std.specs.Prelude.{bytes_eq, if◌then◌else◌}
+use Rattle.std.specs.Option.{option_or}
 use Rattle.dpl_language.specs.Names.{Text}
-use Rattle.dpl_rules.specs.Sights.{Declared, Scopes, find, or_else, lookup, declared_here, add}
+use Rattle.dpl_rules.specs.Sights.{Declared, Scopes, find, lookup, declared_here, add}
 
 pub lookup-add : (d : Declared) (ss : Scopes) (x : Text) → lookup (add d ss) x ≡ (if bytes_eq x d.origin.name then Some d else lookup ss x)
 lookup-add d [] x =
-    elim (bytes_eq x d.origin.name) as (λ t. or_else (if t then Some d else None) None ≡ (if t then Some d else None)) [ true ↦ refl | false ↦ refl ]
+    elim (bytes_eq x d.origin.name) as (λ t. option_or (if t then Some d else None) None ≡ (if t then Some d else None)) [ true ↦ refl | false ↦ refl ]
 lookup-add d (s ∷ ss) x =
-    elim (bytes_eq x d.origin.name) as (λ t. or_else (if t then Some d else find s x) (lookup ss x) ≡ (if t then Some d else or_else (find s x) (lookup ss x)))
+    elim (bytes_eq x d.origin.name) as (λ t. option_or (if t then Some d else find s x) (lookup ss x) ≡ (if t then Some d else option_or (find s x) (lookup ss x)))
     [ true ↦ refl | false ↦ refl ]
 
 pub declared_here-add : (d : Declared) (ss : Scopes) (x : Text) → declared_here (add d ss) x ≡ (if bytes_eq x d.origin.name then true else declared_here ss x)

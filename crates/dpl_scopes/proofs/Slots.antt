@@ -4,10 +4,10 @@ use Rattle.std.proofs.Common.{◌≡◌, ℕ, suc, ◌+◌, ◌<◌, ◌≤◌, 
 use Rattle.std.proofs.lemmas.List.{length-reverse, reverse-append}
 use Rattle.std.specs.Prelude.{bytes_eq, if◌then◌else◌}
 use Rattle.std.specs.Borrow.{Bor}
-use Rattle.std.specs.Option.{option_flatten}
+use Rattle.std.specs.Option.{option_flatten, option_or}
 use Rattle.indexmap.specs.IndexMap.{IndexMap, get}
 use Rattle.dpl_language.specs.Names.{Text}
-use Rattle.dpl_rules.specs.Sights.{Declared, Scope, Scopes, find, or_else, lookup, add}
+use Rattle.dpl_rules.specs.Sights.{Declared, Scope, Scopes, find, lookup, add}
 use Rattle.dpl_scopes.specs.declared.scopes.Mark.{Mark}
 use Rattle.dpl_scopes.specs.declared.scopes.Entry.{Entry}
 use Rattle.dpl_scopes.specs.declared.scopes.Mark.TheVariants.{Opens, Declares}
@@ -98,7 +98,7 @@ place_in-find (d ∷ ds) x begin =
     elim (bytes_eq x d.origin.name) as (λ t. is_some (if t then Some (length ds + begin) else place_in ds x begin) ≡ is_some (if t then Some d else find ds x))
     [ true ↦ refl | false ↦ place_in-find ds x begin ]
 
-either : (a b : Option ℕ) (c d : Option Declared) → is_some a ≡ is_some c → is_some b ≡ is_some d → is_some (slot_or a b) ≡ is_some (or_else c d)
+either : (a b : Option ℕ) (c d : Option Declared) → is_some a ≡ is_some c → is_some b ≡ is_some d → is_some (slot_or a b) ≡ is_some (option_or c d)
 either None b None d e f = f
 either (Some k) b (Some y) d e f = refl
 either None b (Some y) d e f = absurd (let no : false ≡ true = e in cc)

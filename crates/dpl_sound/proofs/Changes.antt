@@ -2,6 +2,7 @@
 -- the declared type, stores of elements of the array's kind, and operations on cells.
 use Rattle.std.proofs.Common.{◌≡◌, Bool, true, false, List, [], ◌∷◌, Option, Some, None, refl, sym, ap, ◌∙◌, subst}
 use Rattle.std.specs.Prelude.{bytes_eq, if◌then◌else◌, drop, length}
+use Rattle.std.specs.Option.{option_or}
 use Rattle.dpl_history.specs.declared.cell.CellState.{CellState}
 use Rattle.dpl_sets.specs.TextRanges.{TextRange}
 use Rattle.dpl_language.specs.Tree.{Kind, IntKind, BoolKind, Op, Assign, Set, SetAdd, SetSubtract, SetMultiply, SetDivide, SetRemainder, SetReduce}
@@ -13,7 +14,7 @@ use Rattle.dpl_language.specs.Names.{Text, Entry, Opened, Declared as Kept, Stor
 use Rattle.dpl_language.specs.Names.{change_in, update_in, with_element, put_in, store_cells, set_cell, with_cells, by_name}
 use Rattle.dpl_rules.specs.Types.{Over, ValueType, Scalar, Range as RangeType, Domain as DomainType, Array as ArrayType}
 use Rattle.dpl_rules.specs.Types.{Promoted, Tuple as TupleType, Locale as LocaleType, AllLocales as AllLocalesType, Cell as CellType, op_kind}
-use Rattle.dpl_rules.specs.Sights.{Declared, Scope, Scopes, find, or_else, lookup}
+use Rattle.dpl_rules.specs.Sights.{Declared, Scope, Scopes, find, lookup}
 use Rattle.dpl_sound.specs.Typed.{OfKind, HasType}
 use Rattle.dpl_sound.specs.Runs.{Keeps}
 use Rattle.dpl_sound.specs.Stores.{AllOfKind, ContentFits, StoreFits}
@@ -27,7 +28,7 @@ KeepsType o change = (d : Declared) (c : Content Text) → o ≡ Some d → Cont
 
 -- by whether the latest entry has the name
 changed_if : (b : Bool) (d : Declared) (ds : Scope) (ss : Scopes) (e : Entry) (es : Store) (x : Text) (change : Content Text → Content Text) → StoreFits ((d ∷ ds) ∷ ss) (Kept e ∷ es)
-    → KeepsType (or_else (if b then Some d else find ds x) (lookup ss x)) change → (KeepsType (lookup (ds ∷ ss) x) change → StoreFits (ds ∷ ss) (change_in x change es))
+    → KeepsType (option_or (if b then Some d else find ds x) (lookup ss x)) change → (KeepsType (lookup (ds ∷ ss) x) change → StoreFits (ds ∷ ss) (change_in x change es))
     → StoreFits ((d ∷ ds) ∷ ss) (if b then Kept (record e { content = change e.content }) ∷ es else Kept e ∷ change_in x change es)
 changed_if true d ds ss e es x change h keeps others = (h.0, keeps d e.content refl h.1, h.2)
 changed_if false d ds ss e es x change h keeps others = (h.0, h.1, others keeps)
@@ -41,7 +42,7 @@ change_in-fits ([] ∷ ss) (Kept e ∷ es) x change h keeps = elim h [ ]
 change_in-fits ((d ∷ ds) ∷ ss) (Opened ∷ es) x change h keeps = elim h [ ]
 change_in-fits ((d ∷ ds) ∷ ss) (Kept e ∷ es) x change h keeps =
     changed_if (bytes_eq x e.name) d ds ss e es x change h
-    (subst (λ n. KeepsType (or_else (if bytes_eq x n then Some d else find ds x) (lookup ss x)) change) h.0 keeps)
+    (subst (λ n. KeepsType (option_or (if bytes_eq x n then Some d else find ds x) (lookup ss x)) change) h.0 keeps)
     (λ keeps. change_in-fits (ds ∷ ss) es x change h.2 keeps)
 
 -- ---- the environment by names

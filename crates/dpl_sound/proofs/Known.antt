@@ -2,6 +2,7 @@
 -- broken, and each is looked at.
 use Rattle.std.proofs.Common.{◌≡◌, ℕ, Bool, true, false, List, [], ◌∷◌, ◌++◌, length, Option, Some, None, refl, sym, subst}
 use Rattle.std.specs.Prelude.{◌&&◌, ◌||◌, not, nat_lt, is_some, if◌then◌else◌}
+use Rattle.std.specs.Option.{option_or}
 use Rattle.dpl_syntax.specs.declared.place.Place.{Place}
 use Rattle.dpl_syntax.specs.declared.refusal.Breach.{Breach}
 use Rattle.dpl_syntax.specs.declared.refusal.Code.TheVariants.{WrongType, CellMisused}
@@ -15,7 +16,7 @@ use Rattle.dpl_rules.specs.Types.{Operand, operand_of, an_int, a_bool, same_kind
 use Rattle.dpl_rules.specs.Verdicts.{Part, part, Verdict, Has, Breaks, type_by, broken_by, breach, owed, wanted, misranked, has_if, judged, with_type, all_known}
 use Rattle.dpl_rules.specs.Places.{first_of, last_of, last_of_post}
 use Rattle.dpl_rules.specs.Sights.{Declared, Scopes, lookup}
-use Rattle.dpl_rules.specs.Operators.{over_arrays, prefix_kind, prefixed, prefix_verdict, reduced_over, reduced, reduction_verdict, over_both, agree, Takes, Ints, Alike, Bools, taken}
+use Rattle.dpl_rules.specs.Operators.{over_arrays, prefix_kind, prefixed, prefix_verdict, reduced_over, reduced, reduction_verdict, agree, Takes, Ints, Alike, Bools, taken}
 use Rattle.dpl_rules.specs.Operators.{between, alike, taking, infix_verdict, any_strided, ranges_breaches, ranges_verdict, index_breaches}
 use Rattle.dpl_rules.specs.Operators.{slice_breaches, locale_breaches, square_verdict, array_verdict, round_verdict, index_rank, domain_over, word_verdict, dim_verdict, contains_verdict, expand_verdict}
 use Rattle.dpl_rules.specs.Expressions.{plain_name, name_verdict, bare_locales, locales_or, none_where, type_of, item_type, range_item_verdict, chain_type, posts_type, post_verdict, method_verdict}
@@ -66,7 +67,7 @@ between-told : (at : Place) (left right result : Kind) (a b : Option Operand) �
 between-told at left right result None b = tt
 between-told at left right result (Some a) None = tt
 between-told at left right result (Some a) (Some b) =
-    has_if-told (same_kind left a.kind && same_kind right b.kind && agree a.over b.over) (over_arrays (over_both a.over b.over) result) at
+    has_if-told (same_kind left a.kind && same_kind right b.kind && agree a.over b.over) (over_arrays (option_or a.over b.over) result) at
 
 alike-told : (at : Place) (a b : Option Operand) → IsTold (alike at a b)
 alike-told at None b = tt

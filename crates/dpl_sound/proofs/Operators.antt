@@ -2,6 +2,7 @@
 -- reductions.
 use Rattle.std.proofs.Common.{◌≡◌, List, [], ◌∷◌, Option, Some, None, Result, Err, refl, sym, ◌∙◌, ap}
 use Rattle.std.specs.Prelude.{◌&&◌, nat_lt}
+use Rattle.std.specs.Option.{option_or}
 use Rattle.std.specs.Result.{IfOk}
 use Rattle.dpl_syntax.specs.declared.place.Place.{Place}
 use Rattle.dpl_sets.specs.TextRanges.{TextRange}
@@ -14,7 +15,7 @@ use Rattle.dpl_language.specs.Outcome.{naming_value}
 use Rattle.dpl_language.specs.Expressions.{folded, fold_over, reduction}
 use Rattle.dpl_rules.specs.Types.{Over, ValueType, Scalar, Operand, operand_of, same_kind, a_bool, is_bool, op_kind}
 use Rattle.dpl_rules.specs.Verdicts.{type_by}
-use Rattle.dpl_rules.specs.Operators.{over_arrays, prefix_kind, prefixed, prefix_verdict, reduced_over, reduced, reduction_verdict, over_both, agree}
+use Rattle.dpl_rules.specs.Operators.{over_arrays, prefix_kind, prefixed, prefix_verdict, reduced_over, reduced, reduction_verdict, agree}
 use Rattle.dpl_rules.specs.Operators.{Takes, Ints, Alike, Bools, taken, between, alike, taking, infix_verdict}
 use Rattle.dpl_sound.specs.Typed.{OfKind, type_at}
 use Rattle.dpl_sound.proofs.Given.{has_if-gives}
@@ -118,8 +119,8 @@ between-kind : (at : Place) (left right result : Kind) (a b : Option Operand) (u
 between-kind at left right result None b u h = absurd cc
 between-kind at left right result (Some a) None u h = absurd cc
 between-kind at left right result (Some a) (Some b) u h =
-    over_arrays-kind (over_both a.over b.over) result u
-    (has_if-gives (same_kind left a.kind && same_kind right b.kind && agree a.over b.over) (over_arrays (over_both a.over b.over) result) at u h).1
+    over_arrays-kind (option_or a.over b.over) result u
+    (has_if-gives (same_kind left a.kind && same_kind right b.kind && agree a.over b.over) (over_arrays (option_or a.over b.over) result) at u h).1
 
 alike-kind : (at : Place) (a b : Option Operand) (u : ValueType) → type_by (alike at a b) ≡ Some u → IsOfKind BoolKind u
 alike-kind at None b u h = absurd cc

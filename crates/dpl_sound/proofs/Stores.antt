@@ -2,6 +2,7 @@
 -- opened and closed, assignments of values of the declared type and stores of elements of the kind keep it so.
 use Rattle.std.proofs.Common.{◌≡◌, Bool, true, false, List, [], ◌∷◌, Option, Some, refl, sym, subst}
 use Rattle.std.specs.Prelude.{bytes_eq, if◌then◌else◌}
+use Rattle.std.specs.Option.{option_or}
 use Rattle.dpl_sets.specs.TextRanges.{TextRange}
 use Rattle.dpl_language.specs.Tree.{Kind}
 use Rattle.dpl_language.specs.Values.{Value, Array, Index}
@@ -9,7 +10,7 @@ use Rattle.dpl_language.specs.Ranges.{same_index, indices_in}
 use Rattle.dpl_language.specs.Environment.{Content, Plain, ArrayOf, CellOf}
 use Rattle.dpl_language.specs.Names.{Text, Opened, Declared as Kept, Store, State, look_up, without_innermost, element_at, element_in, by_name}
 use Rattle.dpl_rules.specs.Types.{Over, ValueType, Array as ArrayType}
-use Rattle.dpl_rules.specs.Sights.{Declared, Scope, Scopes, find, or_else, lookup, declared_here, enter, add, type_declared}
+use Rattle.dpl_rules.specs.Sights.{Declared, Scope, Scopes, find, lookup, declared_here, enter, add, type_declared}
 use Rattle.dpl_sound.proofs.Given.{some-same}
 use Rattle.dpl_sound.specs.Typed.{OfKind, AreRanked, HasType, Fits}
 use Rattle.dpl_sound.specs.Runs.{Keeps}
@@ -18,7 +19,7 @@ use Rattle.dpl_sound.specs.Stores.{AllOfKind, ContentFits, StoreFits}
 -- ---- what is found
 -- by whether the latest declaration has the name
 found_fits : (b : Bool) (d : Declared) (c : Content Text) (o ds : Option Declared) (cs : Content Text) (t : ValueType) → ContentFits d.type c
-    → (type_declared (or_else o ds) ≡ Some t → ContentFits (Some t) cs) → type_declared (or_else (if b then Some d else o) ds) ≡ Some t → ContentFits (Some t) (if b then c else cs)
+    → (type_declared (option_or o ds) ≡ Some t → ContentFits (Some t) cs) → type_declared (option_or (if b then Some d else o) ds) ≡ Some t → ContentFits (Some t) (if b then c else cs)
 found_fits true d c o ds cs t h others e = subst (λ o. ContentFits o c) e h
 found_fits false d c o ds cs t h others e = others e
 

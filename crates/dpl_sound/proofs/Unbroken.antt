@@ -2,6 +2,7 @@
 -- behind it, and the state that it leaves has what the scopes then declare.
 use Rattle.std.proofs.Common.{◌≡◌, ℕ, Bool, true, false, List, [], ◌∷◌, ◌++◌, length, Option, Some, None, refl, sym, ap, ◌∙◌, subst}
 use Rattle.std.specs.Prelude.{◌&&◌, is_some, bytes_eq, if◌then◌else◌}
+use Rattle.std.specs.Option.{option_or}
 use Rattle.dpl_syntax.specs.declared.place.Place.{Place}
 use Rattle.dpl_syntax.specs.declared.refusal.Breach.{Breach}
 use Rattle.dpl_syntax.specs.declared.refusal.Code.TheVariants.{WrongType, NameTwice}
@@ -16,9 +17,9 @@ use Rattle.dpl_language.specs.Statements.{exec}
 use Rattle.dpl_rules.specs.Types.{Origin, ValueType, Scalar, Domain as DomainType, Cell as CellType, domain_of}
 use Rattle.dpl_rules.specs.Verdicts.{Part, type_by, broken_by, breach, owed_type, with_type, all_known}
 use Rattle.dpl_rules.specs.Places.{first_of_item}
-use Rattle.dpl_rules.specs.Sights.{Declared, Scopes, find, or_else, lookup, declared_here, origin_in, add}
+use Rattle.dpl_rules.specs.Sights.{Declared, Scopes, find, lookup, declared_here, origin_in, add}
 use Rattle.dpl_rules.specs.Operators.{any_strided, ranges_breaches, ranges_verdict, domain_or, over_verdict}
-use Rattle.dpl_rules.specs.Expressions.{item_type, item_parts, read_or_type, read_or_breaches, item_breaches, items_breaches, kind_read, side_part, side_breaches}
+use Rattle.dpl_rules.specs.Expressions.{item_type, item_parts, read_or_type, item_breaches, items_breaches, kind_read, side_part, side_breaches, none_where}
 use Rattle.dpl_rules.specs.Maps.{mapped_breaches}
 use Rattle.dpl_rules.specs.Loops.{behind}
 use Rattle.dpl_rules.specs.Declarations.{domain_in, type_rank, agreeing, unmapped, is_untyped, unless_refused, over_domain, declared_type, type_breaches, create_breaches, init_part}
@@ -72,7 +73,7 @@ over_verdict-domain from (p ∷ q ∷ ps) u h = ranges-domain from (p ∷ q ∷ 
 
 module _ (scopes : Scopes) (known : AreKnown scopes) where
   -- ---- initial values
-  read_or-known : (o : Option Kind) (t : Option ValueType) (bs : List Breach) → (bs ≡ [] → IsTyped t) → read_or_breaches o bs ≡ [] → IsTyped (read_or_type o t)
+  read_or-known : (o : Option Kind) (t : Option ValueType) (bs : List Breach) → (bs ≡ [] → IsTyped t) → none_where o bs ≡ [] → IsTyped (read_or_type o t)
   read_or-known None t bs p h = p h
   read_or-known (Some k) t bs p h = (Scalar k, refl)
 
@@ -134,8 +135,8 @@ module _ (scopes : Scopes) (known : AreKnown scopes) where
   refused-known [] o h p = p
   refused-known (b ∷ bs) o h p = absurd cc
 
-found-known : (b : Bool) (d : Declared) (o p : Option Declared) → IsTyped d.type → ((c : Declared) → or_else o p ≡ Some c → IsTyped c.type)
-    → (c : Declared) → or_else (if b then Some d else o) p ≡ Some c → IsTyped c.type
+found-known : (b : Bool) (d : Declared) (o p : Option Declared) → IsTyped d.type → ((c : Declared) → option_or o p ≡ Some c → IsTyped c.type)
+    → (c : Declared) → option_or (if b then Some d else o) p ≡ Some c → IsTyped c.type
 found-known true d o p typed others c h = subst (λ (c : Declared). IsTyped c.type) (some-same d c h) typed
 found-known false d o p typed others c h = others c h
 

@@ -176,23 +176,26 @@ postfixed e (p ∷ ps) = Postfixed e (posts_of (p ∷ ps))
 unfoldable pub postfix : Rule Expression → Rule Expression
 postfix b = b ⨾ many post ∎ ⟶ postfixed
 
+-- redop = "+" | "*" | "&&" | "||" | "&" | "|" | "^" | "min" | "max", each as what the rule makes of it
+abbrev pub by_operator : {T : Type 0} → (Class → Op → Rule T) → Rule T
+by_operator rule =
+    either (rule (sign sign_of.Plus) Sum)
+    (either (rule (sign sign_of.Star) Product)
+    (either (rule (sign sign_of.AndAnd) AllOf)
+    (either (rule (sign sign_of.OrOr) AnyOf)
+    (either (rule (sign sign_of.And) BitAnd)
+    (either (rule (sign sign_of.Or) BitOr)
+    (either (rule (sign sign_of.Caret) BitXor)
+    (either (rule (keyword word_of.Min) Least)
+    (rule (keyword word_of.Max) Greatest))))))))
+
 -- redop "reduce" red, for one operator
 abbrev pub reduction_by : Class → Op → Rule Expression
 reduction_by class op = class ↓ token (keyword word_of.Reduce) ⨾ below RedBelow ∎ ⟶ λ k w e. Reduced k.at op w.at e
 
 -- redop "reduce" red
--- redop = "+" | "*" | "&&" | "||" | "&" | "|" | "^" | "min" | "max"
 unfoldable pub reduction : Rule Expression
-reduction =
-    either (reduction_by (sign sign_of.Plus) Sum)
-    (either (reduction_by (sign sign_of.Star) Product)
-    (either (reduction_by (sign sign_of.AndAnd) AllOf)
-    (either (reduction_by (sign sign_of.OrOr) AnyOf)
-    (either (reduction_by (sign sign_of.And) BitAnd)
-    (either (reduction_by (sign sign_of.Or) BitOr)
-    (either (reduction_by (sign sign_of.Caret) BitXor)
-    (either (reduction_by (keyword word_of.Min) Least)
-    (reduction_by (keyword word_of.Max) Greatest))))))))
+reduction = by_operator reduction_by
 
 -- red = redop "reduce" red | postfix
 unfoldable pub red : Rule Expression → Rule Expression

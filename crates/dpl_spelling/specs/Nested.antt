@@ -53,14 +53,11 @@ pub data Nested : Type 0 where
 
 abbrev pub Value : Nested → Type 0
 Value ItemBelow = Item
-Value ExpressionBelow = Expression
-Value NegBelow = Expression
-Value NotBelow = Expression
-Value RedBelow = Expression
 Value StartBelow = StartTree (List ℕ)
 Value InsideBelow = Inside
 Value StatementBelow = Statement
 Value PlainBelow = Statement
+Value _ = Expression
 
 -- HINTS for the reader: what each of them begins with
 

@@ -6,11 +6,11 @@ use Rattle.dpl_syntax.specs.declared.token.Keyword.{Keyword}
 use Rattle.dpl_syntax.specs.declared.token.Keyword.TheVariants as word_of
 use Rattle.dpl_syntax.specs.declared.token.Contextual.TheVariants as contextual_of
 use Rattle.dpl_syntax.specs.declared.token.Sign.TheVariants as sign_of
-use Rattle.dpl_language.specs.Tree.{Placed, Op, Sum, Product, AllOf, AnyOf, BitAnd, BitOr, BitXor, Least, Greatest, Assign, AssignTree, Set, SetAdd, SetSubtract, SetMultiply, SetDivide, SetRemainder, SetReduce, ReadWord, ReadFEWord, ReadFFWord, WriteWord, WriteEFWord, WriteFFWord, WriteXFWord, ArgumentTree, TextArgument, ExprArgument, IntentTree, ReduceIntent, RefIntent, WithTree, VariablesTree, OneVariable, ManyVariables, BracketPair, Square, Round, TargetTree, Whole, Element, CallTree, ReadCall, ResetCall, WriteCall, Nothing, Assigned, Call, Write, Block, If, While, For, Forall, Coforall, On, Body, WordBody, BlockBody, Stmts, NoStmts, Then, NoElse, ElseDo}
+use Rattle.dpl_language.specs.Tree.{Placed, Op, Assign, AssignTree, Set, SetAdd, SetSubtract, SetMultiply, SetDivide, SetRemainder, SetReduce, ReadWord, ReadFEWord, ReadFFWord, WriteWord, WriteEFWord, WriteFFWord, WriteXFWord, ArgumentTree, TextArgument, ExprArgument, IntentTree, ReduceIntent, RefIntent, WithTree, VariablesTree, OneVariable, ManyVariables, BracketPair, Square, Round, TargetTree, Whole, Element, CallTree, ReadCall, ResetCall, WriteCall, Nothing, Assigned, Call, Write, Block, If, While, For, Forall, Coforall, On, Body, WordBody, BlockBody, Stmts, NoStmts, Then, NoElse, ElseDo}
 use Rattle.dpl_grammar.specs.Classes.{Class, texts, sign, keyword, contextual}
 use Rattle.dpl_grammar.specs.Rule.{token, below, either, many, ◌⟶◌, ◌⨾◌, ◌↓◌, ◌∎, done, maybe, means, closed, lower, choice, ended, dangling}
 use Rattle.dpl_spelling.specs.Nested.{Expression, Item, Statement, ExpressionBelow, StatementBelow, PlainBelow, takes_else, body_takes_else, Rule, Late}
-use Rattle.dpl_spelling.specs.Expressions.{bytes_of, name, after_comma, listed, exprs, expression, item}
+use Rattle.dpl_spelling.specs.Expressions.{bytes_of, name, after_comma, listed, exprs, expression, item, by_operator}
 use Rattle.dpl_spelling.specs.Declarations.{if_there, declaration}
 
 -- Statements that begin with a name.
@@ -149,18 +149,9 @@ variables = either (name ∎ ⟶ λ x. OneVariable x)
     (sign sign_of.OpenRound ↓ name ⨾ after_comma name ⨾ maybe (after_comma name) ⨾ token (sign sign_of.CloseRound) ∎
     ⟶ λ k x y z l. ManyVariables k.at (record { first = x; others = y ∷ if_there z }) l.at)
 
--- redop = "+" | "*" | "&&" | "||" | "&" | "|" | "^" | "min" | "max"
+-- redop
 abbrev pub reduce_operator : Rule (Place × Op)
-reduce_operator =
-    either (means (sign sign_of.Plus) Sum)
-    (either (means (sign sign_of.Star) Product)
-    (either (means (sign sign_of.AndAnd) AllOf)
-    (either (means (sign sign_of.OrOr) AnyOf)
-    (either (means (sign sign_of.And) BitAnd)
-    (either (means (sign sign_of.Or) BitOr)
-    (either (means (sign sign_of.Caret) BitXor)
-    (either (means (keyword word_of.Min) Least)
-    (means (keyword word_of.Max) Greatest))))))))
+reduce_operator = by_operator means
 
 -- intent = "ref" name | redop "reduce" name
 unfoldable pub intent : Rule (IntentTree (List ℕ))

@@ -2,6 +2,7 @@
 -- Where a maker of nodes takes no such operands, the rules give no type.
 use Rattle.std.proofs.Common.{◌≡◌, Bool, true, false, Option, Some, None, refl, sym, ap, ◌∙◌, subst}
 use Rattle.std.specs.Prelude.{◌&&◌, ◌||◌, if◌then◌else◌, option_map}
+use Rattle.std.specs.Option.{option_or}
 use Rattle.std.proofs.lemmas.Option.{none-some}
 use Rattle.dpl_syntax.specs.declared.place.Place.{Place}
 use Rattle.dpl_syntax.specs.declared.refusal.Code.TheVariants.{CellMisused}
@@ -9,7 +10,7 @@ use Rattle.dpl_language.specs.Tree.{Kind, IntKind, BoolKind, Prefix, Minus, Not,
 use Rattle.dpl_rules.specs.Types.{Over, ValueType, Scalar, Range, Domain, Array, Promoted, Tuple, Locale, AllLocales, Cell, an_int, a_bool, is_array, is_cell, Operand, operand_of, same_kind, op_kind}
 use Rattle.dpl_rules.specs.Verdicts.{Has, Breaks, breach, type_by, with_type, has_if}
 use Rattle.dpl_rules.specs.Sights.{Declared, type_declared}
-use Rattle.dpl_rules.specs.Operators.{prefix_kind as taken_before, prefix_verdict, prefixed, reduced_over, reduced, reduction_verdict, infix_verdict, Takes, Ints, Alike, Bools, taken, taking, between, alike, both_bools, over_arrays, over_both, agree}
+use Rattle.dpl_rules.specs.Operators.{prefix_kind as taken_before, prefix_verdict, prefixed, reduced_over, reduced, reduction_verdict, infix_verdict, Takes, Ints, Alike, Bools, taken, taking, between, alike, both_bools, over_arrays, agree}
 use Rattle.dpl_rules.specs.Expressions.{plain_name, name_verdict}
 use Rattle.dpl_words.specs.Words.{IntLeaf, TruthLeaf, RangeLeaf}
 use Rattle.dpl_memory.specs.Memory.{VariableKind, PlainKind, DomainKind, TupleKind, ArrayKind}
@@ -164,16 +165,16 @@ reduction-gives op at k None h = gives-none (reduced_kind op k)
 reduction-gives op at k (Some v) h = reduced-gives op at k (operand_of v) (operand v k h)
 
 -- ---- operators between two operands
-is_over-both : (a b : Option Over) → is_over (over_both a b) ≡ (is_over a || is_over b)
+is_over-both : (a b : Option Over) → is_over (option_or a b) ≡ (is_over a || is_over b)
 is_over-both None b = refl
 is_over-both (Some over) b = refl
 
-ranked-both : (a b : Option Over) → IsRankedOver a → IsRankedOver b → IsRankedOver (over_both a b)
+ranked-both : (a b : Option Over) → IsRankedOver a → IsRankedOver b → IsRankedOver (option_or a b)
 ranked-both None b h i = i
 ranked-both (Some over) b h i = h
 
-both-new : (a b : Option Over) (k : Kind) → IsRankedOver a → IsRankedOver b → IsNew (kind_over (is_over a || is_over b) k) (Some (over_arrays (over_both a b) k))
-both-new a b k h i = subst (λ c. IsNew (kind_over c k) (Some (over_arrays (over_both a b) k))) (is_over-both a b) (over_arrays-new (over_both a b) k (ranked-both a b h i))
+both-new : (a b : Option Over) (k : Kind) → IsRankedOver a → IsRankedOver b → IsNew (kind_over (is_over a || is_over b) k) (Some (over_arrays (option_or a b) k))
+both-new a b k h i = subst (λ c. IsNew (kind_over c k) (Some (over_arrays (option_or a b) k))) (is_over-both a b) (over_arrays-new (option_or a b) k (ranked-both a b h i))
 
 -- what the operator gives of the kinds of two operands
 of_operands : (op : Infix) (k l : VariableKind) (a b : Operand) (u : Option ValueType) → IsOperand k (Some a) → IsOperand l (Some b)
@@ -184,11 +185,11 @@ module _ (op : Infix) (at : Place) (a b : Option Over) (h : IsRankedOver a) (i :
   abbrev Made : Kind → Kind → Kind → Kind → Kind → Type 0
   Made x y left right result =
       Gives (option_map (kind_over (is_over a || is_over b)) (between_kind op (Some x) (Some y)))
-      (type_by (has_if (same_kind left x && same_kind right y && agree a b) (over_arrays (over_both a b) result) at))
+      (type_by (has_if (same_kind left x && same_kind right y && agree a b) (over_arrays (option_or a b) result) at))
 
   agreed : (o : Option Kind) (result : Kind) → o ≡ Some result
-      → Gives (option_map (kind_over (is_over a || is_over b)) o) (type_by (has_if (agree a b) (over_arrays (over_both a b) result) at))
-  agreed o result e = rw e (has_if-gives (agree a b) (kind_over (is_over a || is_over b) result) (over_arrays (over_both a b) result) at (both-new a b result h i))
+      → Gives (option_map (kind_over (is_over a || is_over b)) o) (type_by (has_if (agree a b) (over_arrays (option_or a b) result) at))
+  agreed o result e = rw e (has_if-gives (agree a b) (kind_over (is_over a || is_over b) result) (over_arrays (option_or a b) result) at (both-new a b result h i))
 
   made-ints : (result x y : Kind) → ints_kind op ≡ Some result → Made x y IntKind IntKind result
   made-ints result IntKind IntKind e = agreed (ints_kind op) result e

@@ -2,6 +2,7 @@
 -- So an array that is declared is in sight as the scopes have it, and the name that it is over resolves.
 use Rattle.std.proofs.Common.{◌≡◌, ℕ, suc, Bool, true, false, List, [], ◌∷◌, length, is_some, Option, Some, None, refl, sym, ap, ◌∙◌, subst, ◌≤◌, arith}
 use Rattle.std.specs.Prelude.{bytes_eq, ◌==◌, ◌&&◌, if◌then◌else◌, option_map}
+use Rattle.std.specs.Option.{option_or}
 use Rattle.std.proofs.lemmas.Option.{none-some}
 use Rattle.std.proofs.lemmas.Slice.Eq.{bytes_eq-Decides}
 use Rattle.dpl_syntax.specs.declared.place.Place.{Place}
@@ -10,7 +11,7 @@ use Rattle.dpl_language.specs.Names.{Text}
 use Rattle.dpl_language.specs.Phrases.{declared_over}
 use Rattle.dpl_agreement.proofs.Slots.{same_slot, other_slot}
 use Rattle.dpl_rules.specs.Types.{Origin, Over, ValueType, Scalar, Range, Domain, Array, Promoted, Tuple, Locale, AllLocales, Cell, same_origin, has, is_domain, domain_of}
-use Rattle.dpl_rules.specs.Sights.{Declared, Scope, Scopes, find, or_else, lookup, declared_here, type_declared, origin_in}
+use Rattle.dpl_rules.specs.Sights.{Declared, Scope, Scopes, find, lookup, declared_here, type_declared, origin_in}
 use Rattle.dpl_rules.specs.Verdicts.{type_by}
 use Rattle.dpl_rules.specs.Operators.{ranges_verdict, domain_or, over_verdict}
 use Rattle.dpl_rules.specs.Expressions.{type_of, item_parts}
@@ -40,7 +41,7 @@ lookup-depth : (ss : Scopes) (x : Text) (d : Declared) → AreKnownScopes ss →
 lookup-depth [] x d h e = absurd (none-some d e)
 lookup-depth (s ∷ ss) x d h e = by (find s x) (find-depth (suc (length ss)) s x d h.0) (lookup-depth ss x d h.1) e
   where
-    by : (o : Option Declared) → (o ≡ Some d → d.origin.depth ≡ suc (length ss)) → (lookup ss x ≡ Some d → d.origin.depth ≤ length ss) → or_else o (lookup ss x) ≡ Some d → d.origin.depth ≤ suc (length ss)
+    by : (o : Option Declared) → (o ≡ Some d → d.origin.depth ≡ suc (length ss)) → (lookup ss x ≡ Some d → d.origin.depth ≤ length ss) → option_or o (lookup ss x) ≡ Some d → d.origin.depth ≤ suc (length ss)
     by None here outside e =
         let below : d.origin.depth ≤ length ss = outside e in
         omega (arith, below)
@@ -69,7 +70,7 @@ new-origin (s ∷ ss) a x d h fresh e = by (find s x) refl e
           | false ↦ λ same. refl
         ]) (bytes_eq-Decides d.origin.name a).0
 
-    by : (o : Option Declared) → find s x ≡ o → or_else o (lookup ss x) ≡ Some d → same_origin d.origin (origin_in (s ∷ ss) a) ≡ false
+    by : (o : Option Declared) → find s x ≡ o → option_or o (lookup ss x) ≡ Some d → same_origin d.origin (origin_in (s ∷ ss) a) ≡ false
     by None none e =
         let below : d.origin.depth ≤ length ss = lookup-depth ss x d h.1 e in
         ap (λ b. b && bytes_eq d.origin.name a) (other_slot d.origin.depth (suc (length ss)) (λ same. omega (arith, below, same)))

@@ -5,7 +5,7 @@ use Rattle.std.specs.Prelude.{bytes_eq, if◌then◌else◌}
 use Rattle.std.specs.Option.{option_or}
 use Rattle.std.proofs.lemmas.Slice.Eq.{bytes_eq-Decides}
 use Rattle.dpl_language.specs.Names.{Text}
-use Rattle.dpl_rules.specs.Sights.{Declared, Scope, Scopes, find, or_else, lookup, type_declared, enter, add}
+use Rattle.dpl_rules.specs.Sights.{Declared, Scope, Scopes, find, lookup, type_declared, enter, add}
 use Rattle.dpl_sound.proofs.Given.{some-same}
 use Rattle.dpl_scopes.specs.Slots.{count_in, next_slot_in, place_in, slot_or, slot_in}
 use Rattle.dpl_memory.specs.Memory.{Variable, VariableKind}
@@ -59,7 +59,7 @@ found_alike begin x (d ∷ ds) =
     elim (bytes_eq x d.origin.name) as (λ t. FoundAlike (if t then Some d else find ds x) (if t then Some (length ds + begin) else place_in ds x begin))
     [ true ↦ tt | false ↦ found_alike begin x ds ]
 
-known_found-or : (f g : Option Declared) (p q : Option ℕ) → FoundAlike f p → option_or (known_found f p) (known_found g q) ≡ known_found (or_else f g) (slot_or p q)
+known_found-or : (f g : Option Declared) (p q : Option ℕ) → FoundAlike f p → option_or (known_found f p) (known_found g q) ≡ known_found (option_or f g) (slot_or p q)
 known_found-or None g None q h = refl
 known_found-or None g (Some n) q h = absurd h
 known_found-or (Some d) g None q h = absurd h
@@ -89,7 +89,7 @@ find-known : (depth : ℕ) (s : Scope) (x : Text) → IsKnownScope depth s → H
 find-known depth [] x h = tt
 find-known depth (d ∷ ds) x h = elim (bytes_eq x d.origin.name) as (λ b. HasKnownKind (if b then Some d else find ds x)) [ true ↦ (h.0.0, h.0.1, h.0.3) | false ↦ find-known depth ds x h.2 ]
 
-or-known : (a b : Option Declared) → HasKnownKind a → HasKnownKind b → HasKnownKind (or_else a b)
+or-known : (a b : Option Declared) → HasKnownKind a → HasKnownKind b → HasKnownKind (option_or a b)
 or-known None b p q = q
 or-known (Some d) b p q = p
 
@@ -110,7 +110,7 @@ pub lookup-name : (ss : Scopes) (x : Text) (d : Declared) → lookup ss x ≡ So
 lookup-name [] x d e = absurd cc
 lookup-name (s ∷ ss) x d e = by (find s x) e (find-name s x d) (lookup-name ss x d)
   where
-    by : (o : Option Declared) → or_else o (lookup ss x) ≡ Some d → (o ≡ Some d → x ≡ d.origin.name) → (lookup ss x ≡ Some d → x ≡ d.origin.name) → x ≡ d.origin.name
+    by : (o : Option Declared) → option_or o (lookup ss x) ≡ Some d → (o ≡ Some d → x ≡ d.origin.name) → (lookup ss x ≡ Some d → x ≡ d.origin.name) → x ≡ d.origin.name
     by None e own others = others e
     by (Some c) e own others = own e
 

@@ -2,8 +2,9 @@
 // C3 stands at the operator that doesn't take its operands.
 
 ghost use Rattle.std.specs.Prelude.{◌≡◌, option_map};
+ghost use Rattle.std.specs.Option.{option_or};
 ghost use Rattle.dpl_rules.specs.Operators.{over_arrays as over_arrays_of, prefix_kind as prefix_kind_of, prefix_verdict, reduction_verdict};
-ghost use Rattle.dpl_rules.specs.Operators.{over_both as over_both_of, agree as agree_of, between as between_of, alike as alike_of, infix_verdict};
+ghost use Rattle.dpl_rules.specs.Operators.{agree as agree_of, between as between_of, alike as alike_of, infix_verdict};
 ghost use Rattle.dpl_scopes.specs.Types.{over_view, type_view, operand_view, of_type};
 ghost use Rattle.dpl_types.specs.Judges.{Judges};
 
@@ -81,7 +82,7 @@ pub fn reduction<'t>(
 
 // What two operands are over together.
 fn over_both<'t>(a: Option<Over<'t>>, b: Option<Over<'t>>) -> Option<Over<'t>>
-    ensures { option_map over_view result ≡ over_both_of (option_map over_view a.entry) (option_map over_view b.entry) }
+    ensures { option_map over_view result ≡ option_or (option_map over_view a.entry) (option_map over_view b.entry) }
 {
     match a {
         None => b,
