@@ -8,11 +8,11 @@ use Rattle.dpl_sets.specs.TextRanges.{TextRange}
 use Rattle.dpl_language.specs.Tree.{Placed, Op, ExprTree, Number, TruthWord, Named, LocalesWord, LocaleCount, HereWord, Grouped, DomainLiteral, Prefixed, Reduced, Chain, Postfixed, ItemTree, One, RangeItem, Stride, NoStride, By, Links, NoLinks, Link, Posts, NoPosts, Post, PostTree, Brackets, Rounds, Dotted, MethodTree, Plainly, Dim, Contains, Expand, CellRead, Items, FirstItem, MoreItems, NoItems, NextItem, Exprs, FirstExpr, MoreExprs, NoExprs, NextExpr}
 use Rattle.dpl_language.specs.Values.{Value, Int, Truth, Range, Domain, Array, Cell, Locale, AllLocales, Tuple, Index, number, index_of, array_domain, Fault, fault, Budget}
 use Rattle.dpl_language.specs.Arithmetic.{infix_of, divides, tested_divisor, decides, combined, unit_of}
-use Rattle.dpl_language.specs.Ranges.{indices_in, size_in, bounded}
+use Rattle.dpl_language.specs.Ranges.{indices_in, size_in, bounded, leading}
 use Rattle.dpl_language.specs.Outcome.{naming_value}
 use Rattle.dpl_language.specs.Environment.{Environment, Limits}
 use Rattle.dpl_language.specs.Phrases.{Base, BaseName, BaseLocales, OtherBase, base_of}
-use Rattle.dpl_language.specs.Expressions.{found, leading, locale_of, folded, reduction, unless_decided, whole_in, whole_item, whole_links, element_of, named, bracketed, value_of, chained, item_of, stridden, items_of, more_items, values_of, more_values, behind, post_of, answer_of, domain_of}
+use Rattle.dpl_language.specs.Expressions.{found, locale_of, folded, reduction, unless_decided, whole_in, whole_item, whole_links, element_of, named, bracketed, value_of, chained, item_of, stridden, items_of, more_items, values_of, more_values, behind, post_of, answer_of, domain_of}
 use Rattle.dpl_agreement.specs.Renamed.{renamed, renamed_expr, renamed_item, renamed_stride, renamed_links, renamed_posts, renamed_post, renamed_method, renamed_items, renamed_more_items, renamed_exprs, renamed_more_exprs, renamed_base}
 use Rattle.dpl_agreement.specs.Scopes.{Scoping, more_items_in, items_in, fits_name, fits_element, fits_expr, fits_item, fits_stride, fits_links, fits_posts, fits_post, fits_method, fits_items, fits_more_items, fits_exprs, fits_more_exprs}
 use Rattle.dpl_agreement.specs.Agreement.{Simulates}

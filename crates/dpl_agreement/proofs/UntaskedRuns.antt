@@ -14,7 +14,7 @@ use Rattle.dpl_language.specs.Tree.{Placed, AfterComma, Listed, Op, Kind, IntKin
 use Rattle.dpl_language.specs.Tree.{StmtTree, Nothing, Declare, Assigned, Call, Write, Block, If, While, For, Forall, Coforall, On, Body, WordBody, BlockBody, Stmts, NoStmts, Then, Else, NoElse, ElseDo}
 use Rattle.dpl_language.specs.Values.{Value, Int, Truth, Range, Domain, Array, Cell, Locale, AllLocales, Tuple, Index, number, index_of, ranges_in, array_domain, is_domain, cell_kind, kept_number, default, Fault, fault, Budget, ZeroDivisor, ArrayTooLarge}
 use Rattle.dpl_language.specs.Arithmetic.{assigned, assign_divides, tested_divisor}
-use Rattle.dpl_language.specs.Ranges.{indices_in, size_in, too_large, empty_domain, loop_ranges, index_value, locale_value, loop_value}
+use Rattle.dpl_language.specs.Ranges.{indices_in, size_in, too_large, empty_domain, loop_ranges, index_value, loop_value}
 use Rattle.dpl_language.specs.Outcome.{Deeds, Outcome, Done, Stop, Waits, Run, with_operation, with_text, with_value, naming_value}
 use Rattle.dpl_language.specs.Environment.{Content, Plain, Answer, Replied, Unanswered, Environment, Limits}
 use Rattle.dpl_language.specs.Phrases.{parts, bare_name, ReadTree, item_read, read_op, write_op, declared_over, intents_of}
@@ -82,10 +82,6 @@ index_value-free [] = tt
 index_value-free (i ∷ []) = tt
 index_value-free (i ∷ j ∷ is) = tt
 
-locale_value-free : (t : Index) → NotLocales (locale_value t)
-locale_value-free [] = tt
-locale_value-free (i ∷ is) = tt
-
 loop_value-free : (over : Value) (t : Index) → NotLocales (loop_value over t)
 loop_value-free (Int n) t = index_value-free t
 loop_value-free (Truth b) t = index_value-free t
@@ -94,7 +90,7 @@ loop_value-free (Domain rs) t = index_value-free t
 loop_value-free (Array k rs) t = index_value-free t
 loop_value-free (Cell k) t = index_value-free t
 loop_value-free (Locale n) t = index_value-free t
-loop_value-free AllLocales t = locale_value-free t
+loop_value-free AllLocales t = tt
 loop_value-free (Tuple is) t = index_value-free t
 
 -- PARTS

@@ -8,7 +8,7 @@ use Rattle.dpl_language.specs.Declarations.{type_of as written_type}
 use Rattle.dpl_language.specs.Names.{Text}
 use Rattle.dpl_rules.specs.Types.{Origin, ValueType, Domain, is_any_scalar}
 use Rattle.dpl_rules.specs.Verdicts.{broken_by, where_given, wanted}
-use Rattle.dpl_rules.specs.Declarations.{config_type, untyped_initial, type_breaches, typed_initial, declared_type, type_given, written_breaches, config_breaches, init_part}
+use Rattle.dpl_rules.specs.Declarations.{config_type, type_breaches, typed_initial, declared_type, type_given, written_breaches, config_breaches, init_part, untyped_breaches}
 use Rattle.dpl_rules.specs.Sights.{Scopes}
 use Rattle.dpl_rules.specs.Operators.{over_verdict}
 use Rattle.dpl_rules.specs.Expressions.{item_parts, items_breaches}
@@ -34,7 +34,7 @@ config_type_told false t = []
 
 -- what a declaration without a type owes, and one with a type
 abbrev pub untyped_told : Scopes → Bool → Option (InitialTree Text) → List Breach
-untyped_told scopes is_config initial = untyped_initial scopes initial ++ config_told scopes is_config initial
+untyped_told scopes is_config initial = where_given initial (λ i. untyped_breaches scopes i.init) ++ config_told scopes is_config initial
 
 abbrev pub typed_told : Scopes → Origin → Bool → TypeTree Text → Option (InitialTree Text) → List Breach
 typed_told scopes own is_config t initial =

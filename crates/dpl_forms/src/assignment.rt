@@ -2,14 +2,16 @@
 // C3 stands at the first token of a right side behind `=`, and at the operator behind the others.
 
 ghost use Rattle.std.specs.Prelude.{◌≡◌, ◌++◌, ◌&&◌, Bool, option_map, IfOk, OnOk};
+ghost use Rattle.dpl_language.specs.Tree.{IntKind};
+ghost use Rattle.dpl_rules.specs.Types.{same_kind};
 ghost use Rattle.dpl_tree.specs.View.{item_view, exprs_view, name_view};
 ghost use Rattle.dpl_tree.specs.Statements.{target_view, sign_view};
 ghost use Rattle.dpl_rules.specs.Breaches.{least_from};
 ghost use Rattle.dpl_rules.specs.Verdicts.{type_by, broken_by, wanted as wanted_of, owed_type};
 ghost use Rattle.dpl_rules.specs.Sights.{type_declared};
 ghost use Rattle.dpl_rules.specs.Expressions.{side_part, side_breaches, exprs_breaches};
-ghost use Rattle.dpl_rules.specs.Assignments.{written_name as written_name_of, set_breaches, change_breaches, reduce_breaches, fitting as fitting_of};
-ghost use Rattle.dpl_rules.specs.Assignments.{fitting_target as fitting_target_of, is_int_kind, may_reduce_in, assignment_breaches};
+ghost use Rattle.dpl_rules.specs.Assignments.{written_name as written_name_of, set_breaches, change_breaches, fitting as fitting_of};
+ghost use Rattle.dpl_rules.specs.Assignments.{fitting_target as fitting_target_of, may_reduce_in, assignment_breaches};
 ghost use Rattle.dpl_scopes.specs.Types.{type_view, of_type};
 ghost use Rattle.dpl_types.specs.View.{part_view};
 ghost use Rattle.dpl_types.specs.Wants.{takes};
@@ -81,7 +83,7 @@ pub(crate) fn tell_wanted(want: Want<'_>, part: Part<'_>, first: &mut Option<Bre
 
 // What `+= -= *= /= %=` take, told at the operator: ints, where the target is of ints.
 fn changed(at: Place, side: Part<'_>, kind: ScalarKind, want: Want<'_>, first: &mut Option<Breach>)
-    ensures { first.new ≡ least_from first.old (owed_type (λ t. is_int_kind kind && takes want.entry t) at (of_type side.entry.found)) }
+    ensures { first.new ≡ least_from first.old (owed_type (λ t. same_kind IntKind kind && takes want.entry t) at (of_type side.entry.found)) }
 {
     let part = Part {
         at,

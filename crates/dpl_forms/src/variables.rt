@@ -6,7 +6,7 @@ ghost use Rattle.dpl_tree.specs.View.{name_view};
 ghost use Rattle.dpl_tree.specs.Statements.{variables_view};
 ghost use Rattle.dpl_rules.specs.Breaches.{least_from};
 ghost use Rattle.dpl_rules.specs.Sights.{enter};
-ghost use Rattle.dpl_rules.specs.Loops.{variables_of, add_variables, each_once, variables_once};
+ghost use Rattle.dpl_rules.specs.Loops.{variables_of, add_variables, each_once};
 ghost use Rattle.dpl_scopes.specs.Types.{of_type};
 ghost use Rattle.dpl_forms.specs.Heads.{names_in};
 
@@ -63,7 +63,7 @@ pub fn enter_loop<'t>(
     first: &mut Option<Breach>,
 ) -> Result<(), AllocError>
     ensures scopes { OnOk result (scopes.new ≡ add_variables (of_type found.entry) (variables_of (variables_view variables.now)) (enter scopes.old)) }
-    ensures told { OnOk result (first.new ≡ least_from first.old (variables_once scopes.old (variables_view variables.now))) }
+    ensures told { OnOk result (first.new ≡ least_from first.old (each_once (enter scopes.old) (variables_of (variables_view variables.now)))) }
 {
     scopes.enter()?;
     match variables {

@@ -1,10 +1,10 @@
 // The words of sets, each with the slot that it is for.
 // A set of a name that isn't in sight, or is no int and no bool, gives nothing; none such fits a program.
 
-ghost use Rattle.std.specs.Prelude.{◌≡◌, ◌++◌, map, IfOk, OnOk};
+ghost use Rattle.std.specs.Prelude.{◌≡◌, ◌++◌, map, IfOk, OnOk, option_and_then};
+ghost use Rattle.dpl_rules.specs.Types.{scalar_of};
 ghost use Rattle.dpl_rules.specs.Sights.{lookup, type_declared};
 ghost use Rattle.dpl_rules.specs.Sound.{name_and_value as name_and_value_of};
-ghost use Rattle.dpl_says.specs.Given.{scalar_by};
 ghost use Rattle.dpl_given.specs.Words.{word_of, word_in, words_in};
 
 use dpl_limits::{int_in, name_and_value};
@@ -24,7 +24,7 @@ fn word_of(kind: ScalarKind, text: &[u8]) -> i64
 
 // The kind of a name's declaration, where it is an int or a bool.
 fn kind_of(scopes: &Scopes<'_>, name: &[u8]) -> Option<ScalarKind>
-    ensures { result ≡ scalar_by (type_declared (lookup scopes.now name.now)) }
+    ensures { result ≡ option_and_then scalar_of (type_declared (lookup scopes.now name.now)) }
 {
     scopes.lookup(name)?.value_type?.scalar()
 }

@@ -31,11 +31,11 @@ Causes L n ts r = ((at : Place) × (r ≡ record { code = UnexpectedCode; place 
     ⊎ ((at : Place) × (r ≡ record { code = TooDeep; place = Some at }) × IsTooDeep L n ts at))
 
 module _ {T : Type 0} {L : ℕ → Language T} (n : ℕ) where
-  unexpected_stop : (ts : List Token) (at : Place) (h : IsUnexpected L n ts at) → IsStop L n ts h.before h.token
-  unexpected_stop ts at h = record { after = h.after; split = h.split; begins = h.begins; ends = h.no_front n }
+  unexpected_stop : (ts : List Token) (at : Place) (h : IsUnexpected L n ts at) → IsStop L n ts h.stop.before h.stop.token
+  unexpected_stop ts at h = record { after = h.stop.after; split = h.stop.split; begins = h.stop.begins; ends = h.no_front n }
 
-  deep_stop : (ts : List Token) (at : Place) (h : IsTooDeep L n ts at) → IsStop L n ts h.before h.token
-  deep_stop ts at h = record { after = h.after; split = h.split; begins = h.begins; ends = h.no_room }
+  deep_stop : (ts : List Token) (at : Place) (h : IsTooDeep L n ts at) → IsStop L n ts h.stop.before h.stop.token
+  deep_stop ts at h = record { after = h.stop.after; split = h.stop.split; begins = h.stop.begins; ends = h.no_room }
 
   causes : (ts : List Token) (code : Code) (place : Option Place) → RefusesBy L n ts code place → Causes L n ts (record { code = code; place = place })
   causes ts UnexpectedCode (Some at) h = inl (at, refl, h)
@@ -81,17 +81,17 @@ module _ {T : Type 0} {X : Class} {L : ℕ → Language T} {p : ℕ → Reader T
   -- two refusals at one place
   same_unexpected : (ts : List Token) (a b : Place) → IsUnexpected L n ts a → IsUnexpected L n ts b → a ≡ b
   same_unexpected ts a b g h =
-      let one = stop_one ts g.before h.before g.token h.token (unexpected_stop n ts a g) (unexpected_stop n ts b h) in
-      g.place ∙ ap (λ (k : Token). k.at) one.1 ∙ sym h.place
+      let one = stop_one ts g.stop.before h.stop.before g.stop.token h.stop.token (unexpected_stop n ts a g) (unexpected_stop n ts b h) in
+      g.stop.place ∙ ap (λ (k : Token). k.at) one.1 ∙ sym h.stop.place
 
   same_deep : (ts : List Token) (a b : Place) → IsTooDeep L n ts a → IsTooDeep L n ts b → a ≡ b
   same_deep ts a b g h =
-      let one = stop_one ts g.before h.before g.token h.token (deep_stop n ts a g) (deep_stop n ts b h) in
-      g.place ∙ ap (λ (k : Token). k.at) one.1 ∙ sym h.place
+      let one = stop_one ts g.stop.before h.stop.before g.stop.token h.stop.token (deep_stop n ts a g) (deep_stop n ts b h) in
+      g.stop.place ∙ ap (λ (k : Token). k.at) one.1 ∙ sym h.stop.place
 
   not_both : (ts : List Token) (a b : Place) → IsUnexpected L n ts a → IsTooDeep L n ts b → ⊥
   not_both ts a b g h =
-      let one = stop_one ts g.before h.before g.token h.token (unexpected_stop n ts a g) (deep_stop n ts b h) in
+      let one = stop_one ts g.stop.before h.stop.before g.stop.token h.stop.token (unexpected_stop n ts a g) (deep_stop n ts b h) in
       g.no_front (suc n) (rw (one.0, one.1) h.deeper)
 
   -- Tokens have one refusal at the most.
@@ -100,13 +100,13 @@ module _ {T : Type 0} {X : Class} {L : ℕ → Language T} {p : ℕ → Reader T
     where
       at : Causes L n ts r → Causes L n ts s → r ≡ s
       at (inl (a, e, x)) (inl (b, f, y)) = e ∙ ap (λ (p : Place). record { code = UnexpectedCode; place = Some p }) (same_unexpected ts a b x y) ∙ sym f
-      at (inl (a, e, x)) (inr (inl (f, y))) = absurd (stop_end ts x.before x.token (unexpected_stop n ts a x) y.begins)
+      at (inl (a, e, x)) (inr (inl (f, y))) = absurd (stop_end ts x.stop.before x.stop.token (unexpected_stop n ts a x) y.begins)
       at (inl (a, e, x)) (inr (inr (b, f, y))) = absurd (not_both ts a b x y)
-      at (inr (inl (e, x))) (inl (b, f, y)) = absurd (stop_end ts y.before y.token (unexpected_stop n ts b y) x.begins)
+      at (inr (inl (e, x))) (inl (b, f, y)) = absurd (stop_end ts y.stop.before y.stop.token (unexpected_stop n ts b y) x.begins)
       at (inr (inl (e, x))) (inr (inl (f, y))) = e ∙ sym f
-      at (inr (inl (e, x))) (inr (inr (b, f, y))) = absurd (stop_end ts y.before y.token (deep_stop n ts b y) x.begins)
+      at (inr (inl (e, x))) (inr (inr (b, f, y))) = absurd (stop_end ts y.stop.before y.stop.token (deep_stop n ts b y) x.begins)
       at (inr (inr (a, e, x))) (inl (b, f, y)) = absurd (not_both ts b a y x)
-      at (inr (inr (a, e, x))) (inr (inl (f, y))) = absurd (stop_end ts x.before x.token (deep_stop n ts a x) y.begins)
+      at (inr (inr (a, e, x))) (inr (inl (f, y))) = absurd (stop_end ts x.stop.before x.stop.token (deep_stop n ts a x) y.begins)
       at (inr (inr (a, e, x))) (inr (inr (b, f, y))) = e ∙ ap (λ (p : Place). record { code = TooDeep; place = Some p }) (same_deep ts a b x y) ∙ sym f
 
   -- What is refused spells no value of so many levels.
@@ -114,9 +114,9 @@ module _ {T : Type 0} {X : Class} {L : ℕ → Language T} {p : ℕ → Reader T
   refused_unspelled ts r t g s = at (causes n ts r.code r.place g) ((every n).whole ts t s)
     where
       at : Causes L n ts r → IsFront L n ts → ⊥
-      at (inl (a, e, x)) f = stop_end ts x.before x.token (unexpected_stop n ts a x) f
+      at (inl (a, e, x)) f = stop_end ts x.stop.before x.stop.token (unexpected_stop n ts a x) f
       at (inr (inl (e, x))) f = x.not_spelled n t s
-      at (inr (inr (a, e, x))) f = stop_end ts x.before x.token (deep_stop n ts a x) f
+      at (inr (inr (a, e, x))) f = stop_end ts x.stop.before x.stop.token (deep_stop n ts a x) f
 
   -- of what is read
 
@@ -130,12 +130,14 @@ module _ {T : Type 0} {X : Class} {L : ℕ → Language T} {p : ℕ → Reader T
         not_spelled = λ d x s. depths.read_unspelled every n d ts [] x is s;
       }
       at (k ∷ rest) h is = record {
-        before = h.0;
-        token = k;
-        after = rest;
-        split = h.1;
-        place = refl;
-        begins = h.2;
+        stop = record {
+          before = h.0;
+          token = k;
+          after = rest;
+          split = h.1;
+          place = refl;
+          begins = h.2;
+        };
         no_front = λ d f. depths.stops_no_front_at_all every n d h.0 rest k (Err (Unexpected, k ∷ rest)) (λ l e. depths.not_room (k ∷ rest) l e) refl (ap (p n) (sym h.1) ∙ is) f;
       }
   stopped_refused ts rest NoRoom is = at rest (subst (Tells (L n) (L (suc n)) ts) is ((every n).tells ts)) is
@@ -146,12 +148,14 @@ module _ {T : Type 0} {X : Class} {L : ℕ → Language T} {p : ℕ → Reader T
           let x = h.3 refl in
           let same : k ≡ x.0 = cc in
           record {
-            before = h.0;
-            token = k;
-            after = rest;
-            split = h.1;
-            place = refl;
-            begins = h.2;
+            stop = record {
+              before = h.0;
+              token = k;
+              after = rest;
+              split = h.1;
+              place = refl;
+              begins = h.2;
+            };
             no_room = λ f. depths.stops_no_front every n h.0 rest k (ap (λ (l : List Token). rest_of (p n l)) (sym h.1) ∙ ap rest_of is) f;
             deeper = rw same x.3;
           }
@@ -161,12 +165,14 @@ module _ {T : Type 0} {X : Class} {L : ℕ → Language T} {p : ℕ → Reader T
   left_refused ts rest x k is =
       let h = subst (Tells (L n) (L (suc n)) ts) is ((every n).tells ts) in
       record {
-        before = h.0;
-        token = k;
-        after = rest;
-        split = h.1;
-        place = refl;
-        begins = (every n).whole h.0 x h.2;
+        stop = record {
+          before = h.0;
+          token = k;
+          after = rest;
+          split = h.1;
+          place = refl;
+          begins = (every n).whole h.0 x h.2;
+        };
         no_front = λ d f. depths.stops_no_front_at_all every n d h.0 rest k (Ok (x, k ∷ rest)) (λ l e. absurd cc) refl (ap (p n) (sym h.1) ∙ is) f;
       }
 

@@ -16,28 +16,25 @@ Spells L d = (L d).Spells
 abbrev pub IsFront : {T : Type 0} → (ℕ → Language T) → ℕ → List Token → Type 0
 IsFront L d = (L d).Front
 
--- P1 stands at the first token with which the tokens up to it are no front of a value, however deep;
--- the tokens before it are a front of no more levels than are read.
-pub record IsUnexpected {T : Type 0} (L : ℕ → Language T) (levels : ℕ) (tokens : List Token) (at : Place) : Type 0 where
+-- a token at a place, before which the tokens are a front of no more levels than are read
+pub record StopsAt {T : Type 0} (L : ℕ → Language T) (levels : ℕ) (tokens : List Token) (at : Place) : Type 0 where
   pub before : List Token
   pub token : Token
   pub after : List Token
   pub split : tokens ≡ before ++ token ∷ after
   pub place : at ≡ token.at
   pub begins : IsFront L levels before
-  pub no_front : (d : ℕ) → IsFront L d (before ++ token ∷ []) → ⊥
 
--- P2 stands at the first token that goes one level deeper than is read;
--- the tokens before it are a front of no more levels than are read.
+-- P1 stands at the first token with which the tokens up to it are no front of a value, however deep.
+pub record IsUnexpected {T : Type 0} (L : ℕ → Language T) (levels : ℕ) (tokens : List Token) (at : Place) : Type 0 where
+  pub stop : StopsAt L levels tokens at
+  pub no_front : (d : ℕ) → IsFront L d (stop.before ++ stop.token ∷ []) → ⊥
+
+-- P2 stands at the first token that goes one level deeper than is read.
 pub record IsTooDeep {T : Type 0} (L : ℕ → Language T) (levels : ℕ) (tokens : List Token) (at : Place) : Type 0 where
-  pub before : List Token
-  pub token : Token
-  pub after : List Token
-  pub split : tokens ≡ before ++ token ∷ after
-  pub place : at ≡ token.at
-  pub begins : IsFront L levels before
-  pub no_room : IsFront L levels (before ++ token ∷ []) → ⊥
-  pub deeper : IsFront L (suc levels) (before ++ token ∷ [])
+  pub stop : StopsAt L levels tokens at
+  pub no_room : IsFront L levels (stop.before ++ stop.token ∷ []) → ⊥
+  pub deeper : IsFront L (suc levels) (stop.before ++ stop.token ∷ [])
 
 -- the tokens stop where a value would go on
 pub record IsUnended {T : Type 0} (L : ℕ → Language T) (levels : ℕ) (tokens : List Token) : Type 0 where

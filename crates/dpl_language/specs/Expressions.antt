@@ -7,7 +7,7 @@ use Rattle.dpl_language.specs.Tree.{Placed, Op, ExprTree, Number, TruthWord, Nam
 use Rattle.dpl_sets.specs.TextRanges.{TextRange}
 use Rattle.dpl_language.specs.Values.{Value, Int, Truth, Range, Domain, Array, Locale, AllLocales, Index, number, ranges_in, all_ranges, index_of, array_domain, Fault, fault, Outside, Budget, NoLocale}
 use Rattle.dpl_language.specs.Arithmetic.{prefix_of, infix_of, divides, tested_divisor, decides, combined, unit_of}
-use Rattle.dpl_language.specs.Ranges.{indices_in, size_in, bounded, strided_by, sized, all_sliced, range_sliced, expanded, contains_index, dimension, method_of}
+use Rattle.dpl_language.specs.Ranges.{indices_in, size_in, bounded, strided_by, sized, all_sliced, range_sliced, expanded, contains_index, dimension, method_of, leading}
 use Rattle.dpl_language.specs.Outcome.{with_ok, naming_value}
 use Rattle.dpl_language.specs.Environment.{Environment, Limits}
 use Rattle.dpl_language.specs.Phrases.{Base, BaseName, BaseLocales, OtherBase, base_of}
@@ -16,11 +16,6 @@ use Rattle.dpl_language.specs.Phrases.{Base, BaseName, BaseLocales, OtherBase, b
 abbrev pub found : Place → Option Value → Result Value Fault
 found at None = Err (fault Outside at)
 found at (Some v) = Ok v
-
--- the first coordinate of an index; 0 where it has none
-abbrev pub leading : Index → ℤ
-leading [] = pos 0
-leading (i ∷ is) = i
 
 -- `Locales[k]`: k is from 0 to N - 1, else it is F6 at `Locales`
 abbrev pub locale_of : {N : Type 0} → ℕ → Base N → ℤ → Result Value Fault

@@ -23,15 +23,11 @@ abbrev pub pieces : {A : Type 0} → ℕ → ℕ → List A → List (List A)
 pieces zero n xs = []
 pieces (suc k) n xs = take n xs ∷ pieces k n (drop n xs)
 
-abbrev pub newlines : List TextRange → List ℕ
-newlines [] = []
-newlines (r ∷ rs) = 10 ∷ newlines rs
-
 -- what stands between two parts of an array, by the dimensions of a part: a space between two elements,
 -- a newline between two rows, and two newlines, which leave an empty line, between two planes
 abbrev pub between : List TextRange → List ℕ
 between [] = codes " "
-between (r ∷ rs) = newlines (r ∷ rs)
+between (r ∷ rs) = map (λ r. 10) (r ∷ rs)
 
 -- the texts of elements in domain order, laid out by the domain's dimensions
 abbrev pub laid_out : List TextRange → List (List ℕ) → List ℕ

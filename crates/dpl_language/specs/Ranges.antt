@@ -181,12 +181,12 @@ index_value [] = Tuple []
 index_value (i ∷ []) = Int i
 index_value (i ∷ j ∷ is) = Tuple (i ∷ j ∷ is)
 
--- where it runs over the locales: a locale
-abbrev pub locale_value : Index → Value
-locale_value [] = Locale (pos 0)
-locale_value (i ∷ is) = Locale i
+-- the first coordinate of an index; 0 where it has none
+abbrev pub leading : Index → ℤ
+leading [] = pos 0
+leading (i ∷ is) = i
 
--- the turn's one variable, by what the loop runs over
+-- the turn's one variable, by what the loop runs over; over the locales it is a locale
 abbrev pub loop_value : Value → Index → Value
-loop_value AllLocales t = locale_value t
+loop_value AllLocales t = Locale (leading t)
 loop_value _ t = index_value t

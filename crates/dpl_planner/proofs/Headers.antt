@@ -13,7 +13,7 @@ use Rattle.dpl_rules.specs.Types.{ValueType, Scalar, Range, Domain, Array, Promo
 use Rattle.dpl_rules.specs.Verdicts.{owed}
 use Rattle.dpl_rules.specs.Sights.{LoopVariable, Scopes, declared_here, enter, add, origin_in}
 use Rattle.dpl_rules.specs.Expressions.{item_type}
-use Rattle.dpl_rules.specs.Loops.{LoopWord, ForWord, ForallWord, one_type, variable_type, fits_variables, typed_variable, each_once, variables_once, variables_of, over_type}
+use Rattle.dpl_rules.specs.Loops.{LoopWord, ForWord, ForallWord, one_type, variable_type, fits_variables, typed_variable, each_once, variables_of, over_type}
 use Rattle.dpl_rules.proofs.Admission.{first_empty, second_empty}
 use Rattle.dpl_sound.proofs.Given.{some-same, both_so, owed_not-holds}
 use Rattle.dpl_sound.proofs.Loops.{SameNames, same_names-add}
@@ -64,7 +64,7 @@ same_here ss ts (x ∷ xs) t same once =
       same_here (add (loop_variable t ss x.name) ss) behind xs t (same_names-add ss ts t None x.name same) (second_empty front (each_once behind xs) once),
     )
 
-pub once-fresh : (ss : Scopes) (xs : VariablesTree Text) (t : Option ValueType) → variables_once ss xs ≡ [] → AreFresh t (variables_of xs) (enter ss)
+pub once-fresh : (ss : Scopes) (xs : VariablesTree Text) (t : Option ValueType) → each_once (enter ss) (variables_of xs) ≡ [] → AreFresh t (variables_of xs) (enter ss)
 once-fresh ss (OneVariable x) t once = (refl, tt)
 once-fresh ss (ManyVariables from xs upto) t once = same_here (enter ss) (enter ss) (parts xs) t (λ x. refl) once
 

@@ -14,13 +14,13 @@ use Rattle.dpl_agreement.specs.Renamed.{renamed_type, renamed_typed}
 use Rattle.dpl_agreement.specs.Scopes.{PlainForm, form_by, after, after_all}
 use Rattle.dpl_agreement.proofs.RenamedParts.{declared_over-renamed}
 use Rattle.dpl_rules.specs.Types.{Origin, ValueType, Scalar, Range, Domain, Array, Promoted, Tuple, Locale, AllLocales, Cell, is_domain, domain_of}
-use Rattle.dpl_rules.specs.Verdicts.{Part, type_by, all_known, owed, owed_type}
+use Rattle.dpl_rules.specs.Verdicts.{Part, type_by, all_known, owed, owed_type, where_given}
 use Rattle.dpl_rules.specs.Places.{first_of_item}
 use Rattle.dpl_rules.specs.Sights.{Declared, Scope, Scopes, find, declared_here, origin_in, add}
 use Rattle.dpl_rules.specs.Operators.{any_strided, ranges_breaches, ranges_verdict, domain_or, over_verdict}
 use Rattle.dpl_rules.specs.Expressions.{item_parts, side_part, side_breaches}
 use Rattle.dpl_rules.specs.Maps.{mapped_breaches}
-use Rattle.dpl_rules.specs.Declarations.{domain_in, type_rank, is_kept, is_untyped, base_over, over_domain, init_part, untyped_breaches, untyped_initial, initial_type, config_breaches, written_breaches, type_given, unless_refused, declaration_breaches, declared_by}
+use Rattle.dpl_rules.specs.Declarations.{domain_in, type_rank, is_kept, is_untyped, base_over, over_domain, init_part, untyped_breaches, initial_type, config_breaches, written_breaches, type_given, unless_refused, declaration_breaches, declared_by}
 use Rattle.dpl_rules.specs.Loops.{behind}
 use Rattle.dpl_rules.specs.Sound.{behind_all}
 use Rattle.dpl_rules.proofs.Admission.{first_empty, second_empty}
@@ -187,7 +187,7 @@ module _ (ss : Scopes) where
       is_untyped-kept mapped t (owed_type-holds (is_untyped mapped) (first_of_item item) (side_part ss item).type t e told)
   init-kept (CreateInit c) t h e = is_domain-kept t (over-domain c.from (item_parts ss c.items) t e)
 
-  initial-kept : (i : Option (InitialTree Text)) (t : ValueType) → untyped_initial ss i ≡ [] → initial_type ss i ≡ Some t → is_kept t ≡ true
+  initial-kept : (i : Option (InitialTree Text)) (t : ValueType) → where_given i (λ i. untyped_breaches ss i.init) ≡ [] → initial_type ss i ≡ Some t → is_kept t ≡ true
   initial-kept None t h e = absurd (none-some t e)
   initial-kept (Some i) t h e = init-kept i.init t h e
 

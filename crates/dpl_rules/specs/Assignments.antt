@@ -32,24 +32,18 @@ set_breaches at side Locale = wanted is_locale side
 set_breaches at side _ = []
 
 -- ---- `+= -= *= /= %=`: ints, or an array of ints and what each of its elements can be given
-abbrev pub is_int_kind : Kind → Bool
-is_int_kind k = same_kind IntKind k
-
 abbrev pub change_breaches : Place → Part → ValueType → List Breach
-change_breaches at side (Scalar k) = owed_type (λ t. is_int_kind k && is_scalar k t) at side.type
-change_breaches at side (Array k over) = owed_type (λ t. is_int_kind k && fits_array k over t) at side.type
+change_breaches at side (Scalar k) = owed_type (λ t. same_kind IntKind k && is_scalar k t) at side.type
+change_breaches at side (Array k over) = owed_type (λ t. same_kind IntKind k && fits_array k over t) at side.type
 change_breaches at side (Promoted k over) = []
 change_breaches at side AllLocales = []
 change_breaches at side (Cell k) = []
 change_breaches at side _ = breach at WrongType
 
 -- ---- an assignment to a target of some type; `reduce=` where it may stand gives a value of the variable's kind
-abbrev pub reduce_breaches : Place → Bool → Part → ValueType → List Breach
-reduce_breaches at may_reduce side t = if may_reduce then set_breaches at side t else breach at WrongType
-
 abbrev pub fitting : AssignTree → Assign → Bool → Part → ValueType → List Breach
 fitting sign Set may_reduce side t = set_breaches sign.at side t
-fitting sign SetReduce may_reduce side t = reduce_breaches sign.at may_reduce side t
+fitting sign SetReduce may_reduce side t = if may_reduce then set_breaches sign.at side t else breach sign.at WrongType
 fitting sign _ may_reduce side t = change_breaches sign.at side t
 
 abbrev pub fitting_target : AssignTree → Bool → Part → Option ValueType → List Breach

@@ -124,9 +124,6 @@ module _ (scopes : Scopes) where
   abbrev pub typed_initial : Option ValueType → Option (InitialTree Text) → List Breach
   typed_initial declared initial = where_given initial (λ i. typed_breaches declared i.init)
 
-  abbrev pub untyped_initial : Option (InitialTree Text) → List Breach
-  untyped_initial initial = where_given initial (λ i. untyped_breaches i.init)
-
   abbrev pub initial_type : Option (InitialTree Text) → Option ValueType
   initial_type initial = option_and_then {T = InitialTree Text} {U = ValueType} (λ i. (init_part i.init).type) initial
 
@@ -139,7 +136,7 @@ module _ (scopes : Scopes) where
 
   -- ---- a declaration
   abbrev pub written_breaches : Origin → Option (TypeTree Text) → Option (InitialTree Text) → List Breach
-  written_breaches self None initial = untyped_initial initial
+  written_breaches self None initial = where_given initial (λ i. untyped_breaches i.init)
   written_breaches self (Some t) initial = type_breaches t ++ typed_initial (declared_type self t) initial
 
   abbrev pub type_given : Origin → Option (TypeTree Text) → Option (InitialTree Text) → Option ValueType

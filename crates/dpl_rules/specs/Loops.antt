@@ -107,12 +107,8 @@ module _ (scopes : Scopes) where
   over_breaches (One e) = none_where (bare_locales e) (item_breaches scopes (One e))
   over_breaches (RangeItem low at dots high by) = item_breaches scopes (RangeItem low at dots high by)
 
-  abbrev pub variables_once : VariablesTree Text → List Breach
-  variables_once (OneVariable x) = []
-  variables_once (ManyVariables from xs upto) = each_once (enter scopes) (parts xs)
-
   abbrev pub header_breaches : LoopWord → VariablesTree Text → ItemTree Text → List Breach
-  header_breaches word xs item = over_breaches item ++ header_of word xs item (over_type item) ++ variables_once xs
+  header_breaches word xs item = over_breaches item ++ header_of word xs item (over_type item) ++ each_once (enter scopes) (variables_of xs)
 
   -- a name stands once in a list of intents
   abbrev pub intent_breaches : List Text → List (IntentTree Text) → List Breach

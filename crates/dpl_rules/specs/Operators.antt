@@ -69,13 +69,10 @@ between at left right result _ _ = mistyped at
 abbrev pub alike : Place → Option Operand → Option Operand → Verdict
 alike at a b = needs at a (λ o. between at o.kind o.kind BoolKind (Some o) b)
 
-abbrev pub both_bools : Place → ValueType → ValueType → Verdict
-both_bools at a b = has_if (is_bool a && is_bool b) a_bool at
-
 abbrev pub taking : Takes → Place → ValueType → ValueType → Verdict
 taking (Ints result) at a b = between at IntKind IntKind result (operand_of a) (operand_of b)
 taking Alike at a b = alike at (operand_of a) (operand_of b)
-taking Bools at a b = both_bools at a b
+taking Bools at a b = has_if (is_bool a && is_bool b) a_bool at
 
 abbrev pub infix_verdict : Place → Infix → Option ValueType → Option ValueType → Verdict
 infix_verdict at op a b = with_type a (λ a. with_type b (λ b. taking (taken op) at a b))

@@ -1,7 +1,7 @@
 -- A run of a program's plan in a memory is what the program means.
 -- From the agreement of a memory with names, from lowering, and from what the planner gives.
 use Rattle.std.proofs.Common.{◌≡◌, ℕ, Bool, List, [], map, Option, Some, None, refl, sym, ap, ◌∙◌, subst}
-use Rattle.std.specs.Prelude.{true, option_map}
+use Rattle.std.specs.Prelude.{true, option_map, option_and_then}
 use Rattle.dpl_history.specs.declared.history.Event.{Event}
 use Rattle.std.proofs.lemmas.Option.{none-some}
 use Rattle.dpl_language.specs.Tree.{ProgramTree, Kind, IntKind, BoolKind}
@@ -30,7 +30,7 @@ use Rattle.dpl_frame.specs.declared.fault.Fault.{Fault as FaultNode}
 use Rattle.dpl_nodes.specs.declared.step.Step.{Step}
 use Rattle.dpl_nodes.specs.Steps.{steps_of}
 use Rattle.dpl_frame.specs.Faults.{fault_view}
-use Rattle.dpl_says.specs.Given.{scalar_by, given, words_by}
+use Rattle.dpl_says.specs.Given.{given, words_by}
 use Rattle.dpl_says.specs.Says.{Leaves, Faults, ending_of, run_of, Means}
 use Rattle.dpl_given.specs.Words.{words_in}
 use Rattle.dpl_given.proofs.Alike.{kind_as, given-alike}
@@ -95,7 +95,7 @@ scalar-kind t k e =
     variable-cases (λ t. value_kind t ≡ Some (PlainKind k) → scalar_of t ≡ kind_as k) (λ l. of_scalar l k) (λ strided. of_range strided k) (λ rank strided r e. absurd (of_domain rank strided k e)) (λ rank r e. absurd (of_tuple rank k e))
     t (PlainKind k) refl e e
 
-declared-kind : (t : Option ValueType) (k : LeafKind) → kind_by t ≡ Some (PlainKind k) → scalar_by t ≡ kind_as k
+declared-kind : (t : Option ValueType) (k : LeafKind) → kind_by t ≡ Some (PlainKind k) → option_and_then scalar_of t ≡ kind_as k
 declared-kind None k e = absurd (none-some (PlainKind k) e)
 declared-kind (Some t) k e = scalar-kind t k e
 

@@ -8,12 +8,12 @@ use Rattle.dpl_language.specs.Tree.{Kind, IntKind, BoolKind, Op, Placed, Bracket
 use Rattle.dpl_language.specs.Names.{Text}
 use Rattle.dpl_spelling.specs.Spelt.{ItemSpelt, ExprsSpelt}
 use Rattle.dpl_agreement.specs.Untasked.{UntaskedItem, UntaskedExprs}
-use Rattle.dpl_rules.specs.Types.{Over, ValueType, Scalar, Domain, Array, is_cell, is_scalar, is_domain_of, fits_array}
+use Rattle.dpl_rules.specs.Types.{Over, ValueType, Scalar, Domain, Array, is_cell, is_scalar, is_domain_of, fits_array, same_kind}
 use Rattle.dpl_rules.specs.Verdicts.{Part, type_by, broken_by, owed_type, with_type}
 use Rattle.dpl_rules.specs.Sights.{Declared, Scopes, lookup, type_declared, Reducing, Sight}
 use Rattle.dpl_rules.specs.Operators.{round_verdict}
 use Rattle.dpl_rules.specs.Expressions.{item_type, name_verdict, expr_parts, exprs_breaches, side_part, side_breaches, cell_declared}
-use Rattle.dpl_rules.specs.Assignments.{written_name, set_breaches, is_int_kind, change_breaches, reduce_breaches, fitting, fitting_target, may_reduce_in, element_of, assignment_breaches, called_name, call_word, call_argument, call_breaches}
+use Rattle.dpl_rules.specs.Assignments.{written_name, set_breaches, change_breaches, fitting, fitting_target, may_reduce_in, element_of, assignment_breaches, called_name, call_word, call_argument, call_breaches}
 use Rattle.dpl_rules.proofs.Admission.{first_empty, second_empty}
 use Rattle.dpl_sound.proofs.Given.{some-same, both_so}
 use Rattle.dpl_sound.proofs.Known.{told-typed, post-told}
@@ -41,12 +41,12 @@ record IsFitting (t u : ValueType) (op : Assign) (k j : VariableKind) : Type 0 w
   taken : kind_takes k op ≡ true
 
 -- each operator is taken where an int is given; `=` always is, and `reduce=` of ints and truth values
-int_kind-takes : (op : Assign) (l : Kind) (k : VariableKind) → is_int_kind l ≡ true → value_kind (Scalar l) ≡ Some k → kind_takes k op ≡ true
+int_kind-takes : (op : Assign) (l : Kind) (k : VariableKind) → same_kind IntKind l ≡ true → value_kind (Scalar l) ≡ Some k → kind_takes k op ≡ true
 int_kind-takes op IntKind k h e = subst (λ k. kind_takes k op ≡ true) (kind-same (PlainKind IntLeaf) k e) refl
 int_kind-takes op BoolKind k h e = absurd cc
 
 -- of an array of ints each operator is taken, and `=` of any
-int_elements-take : (op : Assign) (l : Kind) → is_int_kind l ≡ true → kind_takes (ArrayKind l) op ≡ true
+int_elements-take : (op : Assign) (l : Kind) → same_kind IntKind l ≡ true → kind_takes (ArrayKind l) op ≡ true
 int_elements-take op IntKind h = refl
 int_elements-take op BoolKind h = absurd cc
 
@@ -95,15 +95,15 @@ module _ (at : Place) (side : Part) (u : ValueType) (is : side.type ≡ Some u) 
   change-taken op t e =
       kind-cases (λ t. value_kind t ≡ Some k → is_promoted_type t ≡ false → change_breaches at side t ≡ [] → IsFitting t u op k j)
       (λ l e w h.
-      let both = both_so (is_int_kind l) (is_scalar l u) (owed_type-holds (λ t. is_int_kind l && is_scalar l t) at side.type u is h) in
+      let both = both_so (same_kind IntKind l) (is_scalar l u) (owed_type-holds (λ t. same_kind IntKind l && is_scalar l t) at side.type u is h) in
       record { given = is_scalar-given k u j of_kind l e both.1; shaped = refl; assigned = scalar-by IsAssignedKind tt tt l k e; taken = int_kind-takes op l k both.0 e })
       (λ s e w h. absurd cc) (λ rank s r e w h. absurd cc)
       (λ l over r e w h.
-      let both = both_so (is_int_kind l) (fits_array l over u) (owed_type-holds (λ t. is_int_kind l && fits_array l over t) at side.type u is h) in
+      let both = both_so (same_kind IntKind l) (fits_array l over u) (owed_type-holds (λ t. same_kind IntKind l && fits_array l over t) at side.type u is h) in
       array-taken l over op e (int_elements-take op l both.0) both.1) (λ l over r e w h. absurd cc) (λ rank r e w h. absurd cc) t k e e
 
   -- where `reduce=` may stand, its target is an int or a truth value
-  reduce-taken : (may : Bool) → (may ≡ true → IsScalarKind k) → (t : ValueType) → value_kind t ≡ Some k → is_promoted_type t ≡ false → reduce_breaches at may side t ≡ [] → IsFitting t u SetReduce k j
+  reduce-taken : (may : Bool) → (may ≡ true → IsScalarKind k) → (t : ValueType) → value_kind t ≡ Some k → is_promoted_type t ≡ false → (if may then set_breaches at side t else breach at WrongType) ≡ [] → IsFitting t u SetReduce k j
   reduce-taken true scalar t e w h = let set = set-taken t e w h in record { given = set.given; shaped = set.shaped; assigned = set.assigned; taken = scalar_kind-takes k (scalar refl) }
   reduce-taken false scalar t e w h = absurd cc
 
@@ -126,7 +126,7 @@ record IsElementFitting (l : Kind) (u : ValueType) (op : Assign) : Type 0 where
 module _ (sign : AssignTree) (side : Part) (u : ValueType) (is : side.type ≡ Some u) (l : Kind) where
   element-changed : (op : Assign) → op ≢ SetReduce → change_breaches sign.at side (Scalar l) ≡ [] → IsElementFitting l u op
   element-changed op other h =
-      let both = both_so (is_int_kind l) (is_scalar l u) (owed_type-holds (λ t. is_int_kind l && is_scalar l t) sign.at side.type u is h) in
+      let both = both_so (same_kind IntKind l) (is_scalar l u) (owed_type-holds (λ t. same_kind IntKind l && is_scalar l t) sign.at side.type u is h) in
       record { scalar = both.1; taken = int_elements-take op l both.0; unreduced = other }
 
   element-fitting : (op : Assign) → fitting sign op false side (Scalar l) ≡ [] → IsElementFitting l u op
@@ -138,7 +138,7 @@ module _ (sign : AssignTree) (side : Part) (u : ValueType) (is : side.type ≡ S
   element-fitting SetRemainder h = element-changed SetRemainder (λ e. absurd cc) h
   element-fitting SetReduce h = absurd cc
 
-may-reduce : (at : Place) (may : Bool) (side : Part) (t : ValueType) → reduce_breaches at may side t ≡ [] → may ≡ true
+may-reduce : (at : Place) (may : Bool) (side : Part) (t : ValueType) → (if may then set_breaches at side t else breach at WrongType) ≡ [] → may ≡ true
 may-reduce at true side t h = refl
 may-reduce at false side t h = absurd cc
 

@@ -7,8 +7,8 @@ use Rattle.dpl_language.specs.Names.{Text}
 use Rattle.dpl_spelling.specs.Spelt.{ItemSpelt}
 use Rattle.dpl_agreement.specs.Untasked.{UntaskedItem}
 use Rattle.dpl_rules.specs.Types.{ValueType, Range}
-use Rattle.dpl_rules.specs.Sights.{Scopes}
-use Rattle.dpl_rules.specs.Loops.{LoopWord, fits_variables, header_of, over_type, over_breaches, variables_once, header_breaches}
+use Rattle.dpl_rules.specs.Sights.{Scopes, enter}
+use Rattle.dpl_rules.specs.Loops.{LoopWord, fits_variables, header_of, over_type, over_breaches, header_breaches, each_once, variables_of}
 use Rattle.dpl_rules.proofs.Admission.{first_empty, second_empty}
 use Rattle.dpl_memory.specs.Memory.{VariableKind}
 use Rattle.dpl_typer.specs.Leaves.{value_kind, kind_by}
@@ -40,7 +40,7 @@ pub runnable_header : (scopes : Scopes) → AreVariables scopes → (word : Loop
 runnable_header scopes names word xs item several s c h =
     let over = over_breaches scopes item in
     let head = header_of word xs item (over_type scopes item) in
-    let front = first_empty (over ++ head) (variables_once scopes xs) h in
+    let front = first_empty (over ++ head) (each_once (enter scopes) (variables_of xs)) h in
     let value = runnable_over scopes IsNear names item s c (first_empty over head front) in
     let p = value.variable in
     let told = subst (λ o. header_of word xs item o ≡ []) (over-type scopes IsNear names item c ∙ p.is) (second_empty over head front) in
@@ -50,5 +50,5 @@ runnable_header scopes names word xs item several s c h =
       type = p.type;
       is = p.is;
       runs = header-runs word xs several p.type p.kind p.of_kind (header-turned word xs item p.type told);
-      once = second_empty (over ++ head) (variables_once scopes xs) h;
+      once = second_empty (over ++ head) (each_once (enter scopes) (variables_of xs)) h;
     }

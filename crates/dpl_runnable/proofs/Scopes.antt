@@ -23,7 +23,7 @@ use Rattle.dpl_rules.specs.Sights.{Declared, LoopVariable, Scopes, find, lookup,
 use Rattle.dpl_rules.specs.Expressions.{locales_or, none_where, item_type, item_breaches, cell_declared, read_or_type, kind_read, side_part, side_breaches}
 use Rattle.dpl_rules.specs.Maps.{mapped_breaches}
 use Rattle.dpl_rules.specs.Declarations.{type_rank, is_kept, is_untyped, unless_refused, declared_type, type_breaches, init_part, untyped_breaches, typed_initial, config_breaches, written_breaches, type_given, declaration_breaches, declared_by}
-use Rattle.dpl_rules.specs.Loops.{LoopWord, ForWord, ForallWord, CoforallWord, over_domains, over_locales, runs_over, one_type, fits_variables, variable_type, typed_variable, header_of, over_type, over_breaches, variables_once, variables_of, add_variables, header_breaches, in_loop, behind}
+use Rattle.dpl_rules.specs.Loops.{LoopWord, ForWord, ForallWord, CoforallWord, over_domains, over_locales, runs_over, one_type, fits_variables, variable_type, typed_variable, header_of, over_type, over_breaches, variables_of, add_variables, header_breaches, in_loop, behind, each_once}
 use Rattle.dpl_rules.specs.Breaches.{top}
 use Rattle.dpl_rules.proofs.Admission.{first_empty, second_empty}
 use Rattle.dpl_sound.proofs.Given.{some-same, both_so}
@@ -236,7 +236,7 @@ module _ (scopes : Scopes) (P : Place → Type 0) (names : AreVariables scopes) 
   in_loop-variables word xs item s c h =
       let over = over_breaches scopes item in
       let head = header_of word xs item (over_type scopes item) in
-      let front = first_empty (over ++ head) (variables_once scopes xs) h in
+      let front = first_empty (over ++ head) (each_once (enter scopes) (variables_of xs)) h in
       let type = typed_variable word xs (over_type scopes item) in
       let variable = subst IsVariable (sym (over-type item c)) (runnable_over item s c (first_empty over head front)).variable in
       enter-variables (add_variables type (variables_of xs) (enter scopes))

@@ -15,7 +15,7 @@ use Rattle.dpl_rules.specs.Verdicts.{type_by}
 use Rattle.dpl_rules.specs.Operators.{over_verdict}
 use Rattle.dpl_rules.specs.Expressions.{type_of, item_type, item_parts, expr_parts}
 use Rattle.dpl_rules.specs.Declarations.{declared_by}
-use Rattle.dpl_rules.specs.Loops.{ForWord, ForallWord, fits_variables, variables_once, in_loop, behind}
+use Rattle.dpl_rules.specs.Loops.{ForWord, ForallWord, fits_variables, in_loop, behind, each_once, variables_of}
 use Rattle.dpl_scopes.specs.Slots.{slot_in}
 use Rattle.dpl_words.specs.Words.{IntLeaf, TruthLeaf, RangeLeaf}
 use Rattle.dpl_memory.specs.Memory.{VariableKind, PlainKind, DomainKind, TupleKind, ArrayKind}
@@ -204,7 +204,7 @@ pub record IsRunnableHeader (ss : Scopes) (xs : VariablesTree Text) (item : Item
   pub type : ValueType
   pub is : item_type ss item ≡ Some type
   pub runs : RunsOver xs type
-  pub once : variables_once ss xs ≡ []
+  pub once : each_once (enter ss) (variables_of xs) ≡ []
 
 -- a forall's reduce variables are ints or truth values
 abbrev pub IsRunnableIntent : Scopes → IntentTree Text → Type 0

@@ -1,7 +1,9 @@
 -- What a data-parallel text comes to, it comes to on every number of locales.
 -- None of its tokens names a locale, so its tree doesn't; and the command line gives ints and truth values alone.
 use Rattle.std.proofs.Common.{◌≡◌, ◌≢◌, inl, inr, ℕ, List, [], ◌∷◌, Option, Some, None, sym, ap, ◌∙◌, subst}
-use Rattle.std.specs.Prelude.{All}
+use Rattle.std.specs.Prelude.{All, option_and_then}
+use Rattle.dpl_rules.specs.Verdicts.{where_given}
+use Rattle.dpl_rules.specs.Types.{scalar_of}
 use Rattle.std.proofs.lemmas.List.Elements.{All-nil, All-cons, All-append}
 use Rattle.dpl_syntax.specs.declared.token.Token.{Token}
 use Rattle.dpl_history.specs.declared.history.Event.{Event}
@@ -19,7 +21,7 @@ use Rattle.dpl_agreement.proofs.LocalesFree.{locales-free}
 use Rattle.dpl_rules.specs.Sights.{Scopes, lookup, type_declared}
 use Rattle.dpl_rules.specs.Breaches.{top}
 use Rattle.dpl_rules.specs.Sound.{name_and_value, behind_all}
-use Rattle.dpl_says.specs.Given.{value_by, scalar_by, set_by, word_by, words_by, given}
+use Rattle.dpl_says.specs.Given.{value_by, word_by, words_by, given}
 use Rattle.dpl_says.specs.Says.{IsProgram, ending_of, run_of, Ending, Means, ComesTo, IsDataParallel, Says}
 use Rattle.dpl_says.proofs.OneSaying.{ComesTo-one}
 use Rattle.dpl_says.proofs.Untasked.{stmts-untasked, Spells-untasked}
@@ -35,13 +37,13 @@ value-plain : (k : Kind) (text : List ℕ) → value_by k text ≢ AllLocales
 value-plain IntKind text e = absurd cc
 value-plain BoolKind text e = absurd cc
 
-set-plain : (o : Option Kind) (x : Text) (text : List ℕ) → NoLocales (set_by o x text)
+set-plain : (o : Option Kind) (x : Text) (text : List ℕ) → NoLocales (where_given o (λ j. (x, value_by j text) ∷ []))
 set-plain None x text = All-nil Plain
 set-plain (Some k) x text = All-cons Plain (x, value_by k text) [] (value-plain k text) (All-nil Plain)
 
 word-plain : (ss : Scopes) (o : Option (Text × List ℕ)) → NoLocales (word_by ss o)
 word-plain ss None = All-nil Plain
-word-plain ss (Some p) = set-plain (scalar_by (type_declared (lookup ss p.0))) p.0 p.1
+word-plain ss (Some p) = set-plain (option_and_then scalar_of (type_declared (lookup ss p.0))) p.0 p.1
 
 words-plain : (ss : Scopes) (ws : List (List ℕ)) → NoLocales (words_by ss ws)
 words-plain ss [] = All-nil Plain

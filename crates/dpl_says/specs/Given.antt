@@ -1,6 +1,7 @@
 -- What the command line gives to the `config const`s of a program: each word `name=value` a value of the declared kind.
 -- Words that don't fit refuse the program (C14), and give nothing.
-use Rattle.std.specs.Prelude.{ℕ, ◌==◌, ℤ, pos, neg_ℤ, bytes_eq, codes, if◌then◌else◌, List, [], ◌∷◌, ◌++◌, Option, Some, None}
+use Rattle.std.specs.Prelude.{ℕ, ◌==◌, ℤ, pos, neg_ℤ, bytes_eq, codes, if◌then◌else◌, List, [], ◌∷◌, ◌++◌, Option, Some, None, option_and_then}
+use Rattle.dpl_rules.specs.Verdicts.{where_given}
 use Rattle.dpl_syntax.specs.Text.{value_after}
 use Rattle.dpl_language.specs.Tree.{Kind, IntKind, BoolKind, ProgramTree}
 use Rattle.dpl_language.specs.Values.{Value, Int, Truth}
@@ -19,18 +20,10 @@ abbrev pub value_by : Kind → List ℕ → Value
 value_by IntKind text = Int (number_by text)
 value_by BoolKind text = Truth (bytes_eq text (codes "true"))
 
--- the kind of a name's declaration, where it is an int or a bool
-abbrev pub scalar_by : Option ValueType → Option Kind
-scalar_by None = None
-scalar_by (Some t) = scalar_of t
-
-abbrev pub set_by : Option Kind → Text → List ℕ → List (Text × Value)
-set_by None x text = []
-set_by (Some k) x text = (x, value_by k text) ∷ []
-
+-- the value of a name that is declared as an int or a bool
 abbrev pub word_by : Scopes → Option (Text × List ℕ) → List (Text × Value)
 word_by ss None = []
-word_by ss (Some p) = set_by (scalar_by (type_declared (lookup ss p.0))) p.0 p.1
+word_by ss (Some p) = where_given (option_and_then scalar_of (type_declared (lookup ss p.0))) (λ k. (p.0, value_by k p.1) ∷ [])
 
 abbrev pub words_by : Scopes → List (List ℕ) → List (Text × Value)
 words_by ss [] = []

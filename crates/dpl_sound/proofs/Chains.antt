@@ -12,11 +12,11 @@ use Rattle.dpl_language.specs.Names.{Text}
 use Rattle.dpl_language.specs.Outcome.{with_ok}
 use Rattle.dpl_language.specs.Environment.{Environment, Limits}
 use Rattle.dpl_language.specs.Expressions.{unless_decided, value_of, chained}
-use Rattle.dpl_rules.specs.Types.{Over, ValueType, Scalar, Range as RangeType, Domain as DomainType, Array as ArrayType, Promoted, Tuple as TupleType}
+use Rattle.dpl_rules.specs.Types.{Over, ValueType, Scalar, Range as RangeType, Domain as DomainType, Array as ArrayType, Promoted, Tuple as TupleType, is_bool, a_bool}
 use Rattle.dpl_rules.specs.Types.{Locale as LocaleType, AllLocales as AllLocalesType, Cell as CellType, Operand, operand_of, a_bool, is_bool}
-use Rattle.dpl_rules.specs.Verdicts.{type_by}
+use Rattle.dpl_rules.specs.Verdicts.{type_by, has_if}
 use Rattle.dpl_rules.specs.Sights.{Scopes}
-use Rattle.dpl_rules.specs.Operators.{Takes, Ints, Alike, Bools, taken, between, both_bools, taking, infix_verdict}
+use Rattle.dpl_rules.specs.Operators.{Takes, Ints, Alike, Bools, taken, between, taking, infix_verdict}
 use Rattle.dpl_rules.specs.Expressions.{type_of, chain_type}
 use Rattle.dpl_sound.specs.Typed.{HasType, type_at}
 use Rattle.dpl_sound.specs.Formed.{HasLinks}
@@ -72,7 +72,7 @@ is_bool-type LocaleType h = absurd cc
 is_bool-type AllLocalesType h = absurd cc
 is_bool-type (CellType k) h = absurd cc
 
-both_bools-left : (at : Place) (t b u : ValueType) → type_by (both_bools at t b) ≡ Some u → t ≡ a_bool
+both_bools-left : (at : Place) (t b u : ValueType) → type_by (has_if (is_bool t && is_bool b) a_bool at) ≡ Some u → t ≡ a_bool
 both_bools-left at t b u h = is_bool-type t (both_so (is_bool t) (is_bool b) (has_if-gives (is_bool t && is_bool b) a_bool at u h).0).0
 
 decides-bool : (at : Place) (op : Infix) (t : ValueType) (b : Option ValueType) (u : ValueType) (v : Value) → decides op v ≡ true

@@ -24,12 +24,12 @@ use Rattle.dpl_language.specs.Roots.{deal_domain, deal_array, deal_by, dealt}
 use Rattle.dpl_language.specs.Statements.{exec}
 use Rattle.dpl_rules.specs.Types.{Origin, Over, ValueType, Scalar, Range as RangeType, Domain as DomainType, Array as ArrayType}
 use Rattle.dpl_rules.specs.Types.{Promoted, Tuple as TupleType, Locale as LocaleType, AllLocales as AllLocalesType, Cell as CellType, domain_of}
-use Rattle.dpl_rules.specs.Verdicts.{Part, type_by}
+use Rattle.dpl_rules.specs.Verdicts.{Part, type_by, where_given}
 use Rattle.dpl_rules.specs.Sights.{Declared, Scopes, declared_here, origin_in, add}
 use Rattle.dpl_rules.specs.Operators.{ranges_verdict, domain_or, over_verdict}
 use Rattle.dpl_rules.specs.Expressions.{item_type, item_parts, side_part}
 use Rattle.dpl_rules.specs.Declarations.{domain_in, unless_refused, over_domain, array_type, type_breaches, init_part, untyped_breaches, typed_breaches}
-use Rattle.dpl_rules.specs.Declarations.{initial_type, untyped_initial, typed_initial, written_breaches, type_given, config_breaches, declaration_breaches, declared_by}
+use Rattle.dpl_rules.specs.Declarations.{initial_type, typed_initial, written_breaches, type_given, config_breaches, declaration_breaches, declared_by}
 use Rattle.dpl_rules.specs.Loops.{behind}
 use Rattle.dpl_rules.proofs.Admission.{first_empty, second_empty}
 use Rattle.dpl_sound.specs.Formed.{ItemFormed, InitFormed, InitialFormed, TypeFormed, ItemsFormed}
@@ -145,7 +145,7 @@ module _ (limits : Limits) (scopes : Scopes) where
     part-fits init (Some t) v h e hv = (untyped-fits init t v h e hv, tt)
 
     untyped-makes : (bs : List Breach) (initial : Option (InitialTree Text)) → d.type ≡ unless_refused bs (initial_type scopes initial)
-        → (bs ≡ [] → untyped_initial scopes initial ≡ []) → Makes initial (Plain (Int (pos 0))) (λ v. Plain v)
+        → (bs ≡ [] → where_given initial (λ i. untyped_breaches scopes i.init) ≡ []) → Makes initial (Plain (Int (pos 0))) (λ v. Plain v)
     untyped-makes bs None e told = owed-fits bs None (Plain (Int (pos 0))) e (λ none. tt)
     untyped-makes bs (Some i) e told = λ v hv.
         owed-fits bs (init_part scopes i.init).type (Plain v) e (λ none. part-fits i.init (init_part scopes i.init).type v (told none) refl hv)

@@ -18,7 +18,7 @@ use Rattle.dpl_rules.specs.Types.{ValueType, Scalar, Range as RangeType, Domain 
 use Rattle.dpl_rules.specs.Types.{Tuple as TupleType, Locale as LocaleType, AllLocales as AllLocalesType, Cell as CellType, an_int}
 use Rattle.dpl_rules.specs.Verdicts.{owed}
 use Rattle.dpl_rules.specs.Sights.{LoopVariable, Declared, Scopes, find, declared_here, enter, add, origin_in}
-use Rattle.dpl_rules.specs.Loops.{LoopWord, over_domains, over_locales, runs_over, turn_rank, one_type, typed_variable, each_once, add_variables, over_type, variables_once, in_loop}
+use Rattle.dpl_rules.specs.Loops.{LoopWord, over_domains, over_locales, runs_over, turn_rank, one_type, typed_variable, each_once, add_variables, over_type, in_loop, variables_of}
 use Rattle.dpl_rules.proofs.Admission.{second_empty}
 use Rattle.dpl_sound.specs.Formed.{ItemFormed}
 use Rattle.dpl_sound.specs.Typed.{HasType, type_at, Fits}
@@ -148,7 +148,7 @@ module _ (locales : ℕ) (scopes : Scopes) where
   -- The scope of the variables, and inside it that of the body. The index has a coordinate for each range, and no two
   -- variables have one name.
   pub bound_to-keeps : (word : LoopWord) (xs : VariablesTree Text) (item : ItemTree Text) (over : Value) (t : Index) (s : State)
-      → ((u : ValueType) → over_type scopes item ≡ Some u → HasType over (type_at u None)) → length t ≡ length (loop_ranges locales over) → variables_once scopes xs ≡ []
+      → ((u : ValueType) → over_type scopes item ≡ Some u → HasType over (type_at u None)) → length t ≡ length (loop_ranges locales over) → each_once (enter scopes) (variables_of xs) ≡ []
       → Keeps scopes s → Keeps (in_loop scopes word xs item) (by_name.enter (bound_to by_name xs over t (by_name.enter s)))
   bound_to-keeps word (OneVariable x) item over t s hv n h kept =
       let type = typed_variable word (OneVariable x) (over_type scopes item) in

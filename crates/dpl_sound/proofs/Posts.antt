@@ -9,12 +9,12 @@ use Rattle.dpl_sets.specs.TextDomains.{text_expanded}
 use Rattle.dpl_language.specs.Tree.{Kind, IntKind, Word, Size, First, Last, Low, High, LowBound, DomainOf, Id, Posts}
 use Rattle.dpl_language.specs.Tree.{NoPosts, Post, PostTree, Brackets, Rounds, Dotted, MethodTree, Plainly, Dim, Contains, Expand, CellRead}
 use Rattle.dpl_language.specs.Values.{Value, Range, Domain, Locale, Index, Fault, fault, PastLimit, NoLocale, number, ranges_in, all_ranges, index_of}
-use Rattle.dpl_language.specs.Ranges.{all_sliced, range_sliced, too_many, bounds_past_limit, expanded, dimension, members_of_first, first_of, last_of, least_of, greatest_of, end_of, low_of, method_of}
+use Rattle.dpl_language.specs.Ranges.{all_sliced, range_sliced, too_many, bounds_past_limit, expanded, dimension, members_of_first, first_of, last_of, least_of, greatest_of, end_of, low_of, method_of, leading}
 use Rattle.dpl_language.specs.Names.{Text}
 use Rattle.dpl_language.specs.Outcome.{with_ok}
 use Rattle.dpl_language.specs.Environment.{Environment, Limits}
 use Rattle.dpl_language.specs.Phrases.{Base, BaseName, BaseLocales, OtherBase}
-use Rattle.dpl_language.specs.Expressions.{leading, locale_of, element_of, bracketed, value_of, items_of, values_of, post_of, answer_of, behind}
+use Rattle.dpl_language.specs.Expressions.{locale_of, element_of, bracketed, value_of, items_of, values_of, post_of, answer_of, behind}
 use Rattle.dpl_rules.specs.Types.{Over, ValueType, Scalar, Range as RangeType, Domain as DomainType, Array as ArrayType, Promoted, Tuple as TupleType, Locale as LocaleType, AllLocales as AllLocalesType}
 use Rattle.dpl_rules.specs.Types.{Cell as CellType, an_int, a_bool, is_int, is_range, is_domain, is_locale, array_of, domain_of}
 use Rattle.dpl_rules.specs.Verdicts.{Part, part, type_by, Has, misranked, all_known, owed, wanted}

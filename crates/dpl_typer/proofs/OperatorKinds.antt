@@ -7,10 +7,10 @@ use Rattle.std.proofs.lemmas.Option.{none-some}
 use Rattle.dpl_syntax.specs.declared.place.Place.{Place}
 use Rattle.dpl_syntax.specs.declared.refusal.Code.TheVariants.{CellMisused}
 use Rattle.dpl_language.specs.Tree.{Kind, IntKind, BoolKind, Prefix, Minus, Not, Infix, Add, Subtract, Multiply, Divide, Remainder, Less, LessEqual, Greater, GreaterEqual, Equal, NotEqual, And, Or, Op, Sum, Product, AllOf, AnyOf, BitAnd, BitOr, BitXor, Least, Greatest}
-use Rattle.dpl_rules.specs.Types.{Over, ValueType, Scalar, Range, Domain, Array, Promoted, Tuple, Locale, AllLocales, Cell, an_int, a_bool, is_array, is_cell, Operand, operand_of, same_kind, op_kind}
+use Rattle.dpl_rules.specs.Types.{Over, ValueType, Scalar, Range, Domain, Array, Promoted, Tuple, Locale, AllLocales, Cell, an_int, a_bool, is_array, is_cell, Operand, operand_of, same_kind, op_kind, is_bool}
 use Rattle.dpl_rules.specs.Verdicts.{Has, Breaks, breach, type_by, with_type, has_if}
 use Rattle.dpl_rules.specs.Sights.{Declared, type_declared}
-use Rattle.dpl_rules.specs.Operators.{prefix_kind as taken_before, prefix_verdict, prefixed, reduced_over, reduced, reduction_verdict, infix_verdict, Takes, Ints, Alike, Bools, taken, taking, between, alike, both_bools, over_arrays, agree}
+use Rattle.dpl_rules.specs.Operators.{prefix_kind as taken_before, prefix_verdict, prefixed, reduced_over, reduced, reduction_verdict, infix_verdict, Takes, Ints, Alike, Bools, taken, taking, between, alike, over_arrays, agree}
 use Rattle.dpl_rules.specs.Expressions.{plain_name, name_verdict}
 use Rattle.dpl_words.specs.Words.{IntLeaf, TruthLeaf, RangeLeaf}
 use Rattle.dpl_memory.specs.Memory.{VariableKind, PlainKind, DomainKind, TupleKind, ArrayKind}
@@ -217,7 +217,7 @@ module _ (op : Infix) (at : Place) (k l : VariableKind) where
       of_operands op k l a b (type_by (alike at (Some a) (Some b))) h i (made-alike op at a.over b.over h.2 i.2 a.kind b.kind e f)
 
   -- `&&` and `||` take truth values alone
-  truths-give : (t u : ValueType) → truths_kind op ≡ Some BoolKind → value_kind t ≡ Some k → value_kind u ≡ Some l → Gives (infix_kind op k l) (type_by (both_bools at t u))
+  truths-give : (t u : ValueType) → truths_kind op ≡ Some BoolKind → value_kind t ≡ Some k → value_kind u ≡ Some l → Gives (infix_kind op k l) (type_by (has_if (is_bool t && is_bool u) a_bool at))
   truths-give (Scalar IntKind) u e h i = gives-none (infix_kind op k l)
   truths-give (Scalar BoolKind) (Scalar IntKind) e h i = gives-none (infix_kind op k l)
   truths-give (Scalar BoolKind) (Scalar BoolKind) e h i =

@@ -3,7 +3,7 @@ use Rattle.dpl_tree.specs.View.{name_view}
 use Rattle.dpl_tree.specs.Statements.{variables_view}
 use Rattle.dpl_rules.specs.Breaches.{least_from}
 use Rattle.dpl_rules.specs.Sights.{enter}
-use Rattle.dpl_rules.specs.Loops.{add_variables, each_once, variables_once}
+use Rattle.dpl_rules.specs.Loops.{add_variables, each_once, variables_of}
 use Rattle.dpl_scopes.specs.Types.{of_type}
 use Rattle.dpl_forms.specs.Heads.{names_in}
 use Rattle.dpl_forms.proofs.Heads.{names_next}
@@ -22,4 +22,4 @@ returns-in_ok-more_variables-in-Many-clause-told c =
     (c.in_ok-variable-in-Many.ensures.told ∙ ap (λ ss. least_from first (each_once ss (x ∷ []))) entered)
     c.in_ok-more_variables-in-Many.ensures.told
     ∙ ap (λ xs. least_from first (each_once (enter scopes) (x ∷ xs))) (sym (names_next others))
-    ∙ ap (λ v. least_from first (variables_once scopes (variables_view v))) (sym c.in-Many.is)
+    ∙ ap (λ v. least_from first (each_once (enter scopes) (variables_of (variables_view v)))) (sym c.in-Many.is)
