@@ -6,7 +6,7 @@ use Rattle.dpl_syntax.specs.Text.{value_after}
 use Rattle.dpl_language.specs.Tree.{Kind, IntKind, BoolKind, ProgramTree}
 use Rattle.dpl_language.specs.Values.{Value, Int, Truth}
 use Rattle.dpl_language.specs.Names.{Text}
-use Rattle.dpl_rules.specs.Types.{ValueType, scalar_of}
+use Rattle.dpl_rules.specs.Types.{scalar_of}
 use Rattle.dpl_rules.specs.Sights.{Scopes, lookup, type_declared}
 use Rattle.dpl_rules.specs.Breaches.{top}
 use Rattle.dpl_rules.specs.Sound.{name_and_value, behind_all}
