@@ -2,14 +2,15 @@
 -- domain one of its kind and its shape, a whole array what its elements may be given, and an element one of its kind; and no
 -- cell's method is called.
 use Rattle.std.proofs.Common.{◌≡◌, ◌≢◌, ℕ, Bool, true, false, List, [], ◌++◌, Option, Some, None, refl, sym, ap, ◌∙◌, subst}
-use Rattle.std.specs.Prelude.{◌&&◌}
+use Rattle.std.specs.Prelude.{◌&&◌, if◌then◌else◌}
+use Rattle.dpl_syntax.specs.declared.refusal.Code.TheVariants.{WrongType}
 use Rattle.dpl_syntax.specs.declared.place.Place.{Place}
 use Rattle.dpl_language.specs.Tree.{Kind, IntKind, BoolKind, Op, Placed, BracketPair, Rounds, Exprs, Assign, Set, SetAdd, SetSubtract, SetMultiply, SetDivide, SetRemainder, SetReduce, AssignTree, ItemTree, Whole, Element, CallTree}
 use Rattle.dpl_language.specs.Names.{Text}
 use Rattle.dpl_spelling.specs.Spelt.{ItemSpelt, ExprsSpelt}
 use Rattle.dpl_agreement.specs.Untasked.{UntaskedItem, UntaskedExprs}
 use Rattle.dpl_rules.specs.Types.{Over, ValueType, Scalar, Domain, Array, is_cell, is_scalar, is_domain_of, fits_array, same_kind}
-use Rattle.dpl_rules.specs.Verdicts.{Part, type_by, broken_by, owed_type, with_type}
+use Rattle.dpl_rules.specs.Verdicts.{Part, type_by, broken_by, owed_type, with_type, breach}
 use Rattle.dpl_rules.specs.Sights.{Declared, Scopes, lookup, type_declared, Reducing, Sight}
 use Rattle.dpl_rules.specs.Operators.{round_verdict}
 use Rattle.dpl_rules.specs.Expressions.{item_type, name_verdict, expr_parts, exprs_breaches, side_part, side_breaches, cell_declared}
