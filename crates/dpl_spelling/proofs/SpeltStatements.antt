@@ -16,7 +16,7 @@ use Rattle.dpl_grammar.proofs.Values.{Begins, never_holds, OfLate, of_any, of_ei
 use Rattle.dpl_grammar.proofs.Values.{of_token as of_any_token}
 use Rattle.dpl_spelling.specs.Nested.{Nested, Inside, OneItem, Tuple, Expression, Item, Statement, ItemBelow, ExpressionBelow, NegBelow, NotBelow, RedBelow, StartBelow, InsideBelow, StatementBelow, PlainBelow, nested, Rule, Late}
 use Rattle.dpl_spelling.specs.Expressions.{simple_base, base}
-use Rattle.dpl_spelling.specs.Declarations.{if_there, after_inside, tuple_end, inside, bracket, holding, expression_end, start, Argument, nameless, after_argument, argument_end, item_name, start_name, box_argument, start_argument, block_map, cyclic_map, block_cyclic_map, map, mapped, scalar_kind, sync_type, domain_type, array_type, declared_type, typed, create_word, created, init, initial, Declared, declared, declare_end, declaration, config_declaration}
+use Rattle.dpl_spelling.specs.Declarations.{if_there, after_inside, tuple_end, inside, Bracket, bracket, holding, after_bracket, expression_end, start, Argument, nameless, after_argument, argument_end, item_name, start_name, box_argument, start_argument, block_map, cyclic_map, block_cyclic_map, map, mapped, scalar_kind, sync_type, domain_type, array_type, declared_type, typed, create_word, created, init, initial, Declared, declared, declare_end, declaration, config_declaration}
 use Rattle.dpl_spelling.specs.Statements.{element, target_end, assign_by, assign_sign, assignment_end, write_call, read_call, reset_call, cell_call, call_end, named_statement, argument, output, stmts_of, block, part, body, Condition, condition, Conditional, consequence, alternative, if_else, while_loop, on_locale, variables, reduce_operator, intent, with_intents, Loop, loop_head, for_loop, ParallelLoop, parallel_head, forall_loop, coforall_loop, simple_statement, plain_statement, statement}
 use Rattle.dpl_spelling.specs.Grammar.{Program, top, tops, program, grammar}
 use Rattle.dpl_spelling.specs.Theorem.{Spells}
@@ -55,13 +55,19 @@ module _ (P : Place → Type 0) (W : Type 0) (g : Deep nested) (inner : (n : Nes
   unfolding inside
   inside_spelt = of_complete (ItemSpelt P W) (ExprSpelt P W) (item_spelt P W g inner) after_inside_spelt (of_either tuple_end_spelt (of_done (λ e p. p)))
 
-  holding_spelt : (x : Inside) (from upto : Place) → P from → InsideSpelt P W x → P upto → Begins (ExprSpelt P W) (StartSpelt P W) (holding from x upto)
-  holding_spelt (OneItem x) from upto h k i = (h, k, i)
-  holding_spelt (Tuple xs) from upto h k i = (h, k.0, i, k.1)
+  abbrev BracketSpelt : Bracket → Type 0
+  BracketSpelt b = P b.from × InsideSpelt P W b.holds × P b.upto
 
-  bracket_spelt : Is P W g bracket (Begins (ExprSpelt P W) (StartSpelt P W))
+  bracket_spelt : Is P W g bracket BracketSpelt
   unfolding bracket
-  bracket_spelt = of_parts (of_deeper (λ k p. of_part (inner InsideBelow) (λ x q. of_last of_token (λ l r. holding_spelt x k.at l.at p q r))))
+  bracket_spelt = of_parts (of_deeper (λ k p. of_part (inner InsideBelow) (λ x q. of_last of_token (λ l r. (p, q, r)))))
+
+  after_bracket_spelt : (b : Bracket) → BracketSpelt b → Begins (ExprSpelt P W) (StartSpelt P W) (after_bracket b)
+  after_bracket_spelt b h = by b.holds h.1
+    where
+      by : (x : Inside) → InsideSpelt P W x → Begins (ExprSpelt P W) (StartSpelt P W) (holding b.from x b.upto)
+      by (OneItem x) k = (h.0, k, h.2)
+      by (Tuple xs) k = (h.0, k.0, h.2, k.1)
 
   expression_end_spelt : Is P W g expression_end (λ make. (e : Expression) → ExprSpelt P W e → StartSpelt P W (make e))
   unfolding expression_end
@@ -79,7 +85,7 @@ module _ (P : Place → Type 0) (W : Type 0) (g : Deep nested) (inner : (n : Nes
   pub start_spelt : Is P W g start (StartSpelt P W)
   unfolding start
   start_spelt =
-      of_either (of_complete (Begins (ExprSpelt P W) (StartSpelt P W)) (ExprSpelt P W) bracket_spelt (λ b h. h) expression_end_spelt)
+      of_either (of_complete BracketSpelt (ExprSpelt P W) bracket_spelt after_bracket_spelt expression_end_spelt)
       (of_parts (of_last (expression_from_spelt P W g inner simple_base (simple_base_spelt P W g inner)) (λ e p. p)))
 
   -- MAPS

@@ -34,14 +34,23 @@ tuple_end = after_comma expression ⨾ maybe (after_comma expression) ∎ ⟶ λ
 unfoldable pub inside : Rule Inside
 inside = complete item after_inside (either tuple_end (done (λ e. OneItem (One e))))
 
+-- a bracket and what it holds
+pub record Bracket : Type 0 where
+  pub from : Place
+  pub holds : Inside
+  pub upto : Place
+
+-- "(" inside ")"
+unfoldable pub bracket : Rule Bracket
+bracket = sign sign_of.OpenRound ↓ below InsideBelow ⨾ token (sign sign_of.CloseRound) ∎ ⟶ λ k x l. record { from = k.at; holds = x; upto = l.at }
+
 -- a tuple; or, where the bracket holds an item, the base that an expression begins with
 abbrev pub holding : Place → Inside → Place → Beginning Expression (StartTree (List ℕ))
 holding from (OneItem x) upto = Begun (Grouped from x upto)
 holding from (Tuple xs) upto = Whole (StartTuple from xs upto)
 
--- "(" inside ")"
-unfoldable pub bracket : Rule (Beginning Expression (StartTree (List ℕ)))
-bracket = sign sign_of.OpenRound ↓ below InsideBelow ⨾ token (sign sign_of.CloseRound) ∎ ⟶ λ k x l. holding k.at x l.at
+abbrev pub after_bracket : Bracket → Beginning Expression (StartTree (List ℕ))
+after_bracket b = holding b.from b.holds b.upto
 
 -- what may stand behind a base in an expression, by the levels of operators
 unfoldable pub expression_end : Rule (Expression → StartTree (List ℕ))
@@ -52,7 +61,7 @@ expression_end =
 
 -- start = expr | "(" expr "," expr [ "," expr ] ")"
 unfoldable pub start : Rule (StartTree (List ℕ))
-start = either (complete bracket (λ b. b) expression_end) (expression_from simple_base ∎ ⟶ λ e. StartExpr e)
+start = either (complete bracket after_bracket expression_end) (expression_from simple_base ∎ ⟶ λ e. StartExpr e)
 
 -- Maps. Each argument may have its name before it.
 

@@ -52,23 +52,17 @@ abbrev pub more_items : List (AfterComma Item) → MoreItems (List ℕ)
 more_items [] = NoItems
 more_items (x ∷ xs) = NextItem x.comma x.part (more_items xs)
 
-abbrev pub items_of : Listed Item → Items (List ℕ)
-items_of xs = FirstItem xs.first (more_items xs.others)
-
 abbrev pub more_exprs : List (AfterComma Expression) → MoreExprs (List ℕ)
 more_exprs [] = NoExprs
 more_exprs (x ∷ xs) = NextExpr x.comma x.part (more_exprs xs)
 
-abbrev pub exprs_of : Listed Expression → Exprs (List ℕ)
-exprs_of xs = FirstExpr xs.first (more_exprs xs.others)
-
 -- item { "," item }, in a bracket
 unfoldable pub items : Rule (Items (List ℕ))
-items = listed (below ItemBelow) ∎ ⟶ items_of
+items = listed (below ItemBelow) ∎ ⟶ λ xs. FirstItem xs.first (more_items xs.others)
 
 -- expr { "," expr }, in a bracket
 unfoldable pub exprs : Rule (Exprs (List ℕ))
-exprs = listed (below ExpressionBelow) ∎ ⟶ exprs_of
+exprs = listed (below ExpressionBelow) ∎ ⟶ λ xs. FirstExpr xs.first (more_exprs xs.others)
 
 -- Methods and what else stands behind a base.
 
@@ -130,10 +124,6 @@ post = either brackets (either rounds dotted)
 
 -- The levels of expressions. Each takes its base: what its first operand may begin with.
 
--- a number
-abbrev pub number : Rule Expression
-number = number_token ∎ ⟶ λ n. Number n.0 n.1
-
 -- a word that is an expression
 abbrev pub expression_word : Class → (Place → Expression) → Rule Expression
 expression_word class make = token class ∎ ⟶ λ k. make k.at
@@ -151,7 +141,7 @@ grouped = sign sign_of.OpenRound ↓ below ItemBelow ⨾ token (sign sign_of.Clo
 unfoldable pub simple_base : Rule Expression
 simple_base =
     either (name ∎ ⟶ λ x. Named x)
-    (either number
+    (either (number_token ∎ ⟶ λ n. Number n.0 n.1)
     (either (expression_word (keyword word_of.True) (λ at. TruthWord at true))
     (either (expression_word (keyword word_of.False) (λ at. TruthWord at false))
     (either (expression_word (keyword word_of.Locales) (λ at. LocalesWord at))
