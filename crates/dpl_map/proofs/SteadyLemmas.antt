@@ -1,16 +1,18 @@
 -- Integers between two that have one coordinate, and indices between two that have one owner.
--- By the block rule coordinates rise, so what lies between two of one coordinate has it too.
-use Rattle.std.proofs.Common.{◌≡◌, ◌+◌, ◌*◌, ◌/◌, ◌<◌, ◌≤◌, ◌↔◌, ℕ, zero, suc, ℤ, pos, ◌-ℤ◌, ◌≤ℤ◌, unsigned_abs, List, [], ◌∷◌, length, slice_get, Option, Some, None, refl, ap, sym, ◌∙◌, subst, arith}
+-- By the block rule coordinates rise, so what lies between two of one coordinate has it too; by the block-cyclic rule so it is of blocks.
+use Rattle.std.proofs.Common.{◌≡◌, ◌+◌, ◌*◌, ◌/◌, ◌<◌, ◌≤◌, ◌↔◌, ℕ, zero, suc, ℤ, pos, negsuc, ◌-ℤ◌, ◌≤ℤ◌, unsigned_abs, List, [], ◌∷◌, length, slice_get, Option, Some, None, refl, ap, sym, ◌∙◌, subst, arith}
+use Rattle.std.specs.Int.{int_div_euclid, int_rem_euclid}
 use Rattle.std.proofs.lemmas.Int.{ints, by_lt_z}
 use Rattle.std.proofs.lemmas.Nat.{le-div}
 use Rattle.std.proofs.lemmas.Option.{none-some, same_Some}
 use Rattle.std.proofs.Math.Nat.{mul-le-mul_right, div-mul-le_self}
+use Rattle.dpl_sets.specs.Members.{count_of}
 use Rattle.dpl_domain.specs.Ranks.{last_of, IsPadded}
 use Rattle.dpl_map.specs.AxisFields.{IsAxis, IsRule}
 use Rattle.dpl_map.specs.Boxes.{AreBetween, IsSteady}
 use Rattle.dpl_map.specs.MapFields.{IsMap}
-use Rattle.dpl_map.specs.Maps.{AxisValue, RuleValue, Block, Cyclic, axis_coordinate, rule_coordinate, owner}
-use Rattle.dpl_map.specs.Places.{block_place}
+use Rattle.dpl_map.specs.Maps.{AxisValue, RuleValue, Block, Cyclic, BlockCyclic, axis_coordinate, rule_coordinate, owner}
+use Rattle.dpl_map.specs.Places.{block_place, block_cyclic_place}
 use Rattle.dpl_map.proofs.AxisLemmas.{axis-below, block-last}
 use Rattle.dpl_map.proofs.OwnerLemmas.{locale_of, owner-padded}
 use Rattle.dpl_map.proofs.PlaceLemmas.{block-below, block-above, block-within}
@@ -47,6 +49,26 @@ block-axis axis from to low high limits is same i above below =
     let ordered : IsRule (Block from to) = subst IsRule is limits.rule in
     ap (λ r. rule_coordinate r axis.extent i) is
     ∙ block-steady from to axis.extent low high ordered.2 limits.extent.0 (sym (ap (λ r. rule_coordinate r axis.extent low) is) ∙ same ∙ ap (λ r. rule_coordinate r axis.extent high) is) i above below
+    ∙ sym (ap (λ r. rule_coordinate r axis.extent low) is)
+
+-- blocks that are dealt out in rounds rise too
+div_euclid-rises : (x y : ℤ) (b : ℕ) → 0 < b → x ≤ℤ y → int_div_euclid x (pos b) ≤ℤ int_div_euclid y (pos b)
+div_euclid-rises (pos a) (pos c) b some less = let rise = quotient-rises a c b (omega (arith, ints, less)) some in omega (arith, ints, rise)
+div_euclid-rises (pos a) (negsuc c) b some less = absurd (omega (arith, ints, less))
+div_euclid-rises (negsuc a) (pos c) b some less = omega (arith, ints)
+div_euclid-rises (negsuc a) (negsuc c) b some less = let rise = quotient-rises c a b (omega (arith, ints, less)) some in omega (arith, ints, rise)
+
+-- so between two integers of one such block lies that block alone
+pub rounds-axis : (axis : AxisValue) (start size low high : ℤ) → pos 1 ≤ℤ size → axis.rule ≡ BlockCyclic start size → int_div_euclid (low -ℤ start) size ≡ int_div_euclid (high -ℤ start) size → IsSteady axis low high
+unfolding block_cyclic_place
+rounds-axis axis start (negsuc n) low high some is same i above below = absurd (omega (arith, ints, some))
+rounds-axis axis start (pos n) low high some is same i above below =
+    let positive : 0 < n = omega (arith, ints, some) in
+    let before = div_euclid-rises (low -ℤ start) (i -ℤ start) n positive (omega (arith, ints, above)) in
+    let after = div_euclid-rises (i -ℤ start) (high -ℤ start) n positive (omega (arith, ints, below)) in
+    let between : int_div_euclid (i -ℤ start) (pos n) ≡ int_div_euclid (low -ℤ start) (pos n) = omega (arith, ints, before, after, same) in
+    ap (λ r. rule_coordinate r axis.extent i) is
+    ∙ ap (λ q. count_of (int_rem_euclid q (pos axis.extent))) between
     ∙ sym (ap (λ r. rule_coordinate r axis.extent low) is)
 
 -- an axis of one coordinate has no other

@@ -233,8 +233,28 @@ impl Axis {
         match self.rule {
             Rule::Block { .. } => self.coordinate(low) == self.coordinate(high),
             Rule::Cyclic { .. } => false,
-            Rule::BlockCyclic { .. } => false,
+            Rule::BlockCyclic { start, size } => {
+                block_of(start, size, low) == block_of(start, size, high)
+            }
         }
+    }
+
+    /// How many indices from one on, each so far from the one before it, are likely to have one coordinate: those of the block-cyclic rule's
+    /// block that has the first one. This is where to look first, and says nothing by itself; `is_steady` tells whether they have.
+    pub fn likely(&self, i: i64, step: i64) -> u64 {
+        if self.extent == 1 {
+            return u64::MAX;
+        }
+        let Rule::BlockCyclic { start, size } = self.rule else {
+            return u64::MAX;
+        };
+        let below = offset_of(start, size, i) as u64;
+        let left = if step < 0 {
+            below
+        } else {
+            (size as u64).saturating_sub(below).saturating_sub(1)
+        };
+        (left / step.unsigned_abs().max(1)).saturating_add(1)
     }
 
     /// The coordinate of an index, which may be any number.

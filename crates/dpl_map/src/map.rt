@@ -252,9 +252,17 @@ impl Map {
         row * inner.extent() + inner.coordinate(z)
     }
 
+    /// How many indices from one on, each so far from the one before it in the last dimension, are likely to have one owner. This is where to
+    /// look first, and says nothing by itself; `owns_between` tells whether they have.
+    pub fn likely(&self, index: Index, step: i64) -> u64 {
+        let (_, _, inner) = self.axes();
+        let (_, _, last) = index.numbers();
+        inner.likely(last, step)
+    }
+
     /// Whether a locale owns all indices between two, which have the least and the greatest number of each dimension. It looks at
-    /// the two alone: where dimensions are dealt out by blocks or not at all it answers exactly, and else it may answer no
-    /// of a locale that owns them.
+    /// the two alone: where dimensions are dealt out by blocks or not at all it answers exactly, by the block-cyclic rule it answers yes
+    /// where the two lie in one block, and else it may answer no of a locale that owns them.
     pub fn owns_between(&self, low: Index, high: Index, locale: u32) -> bool
         ensures { IsTrue result → (t : List ℤ) → AreBetween low t high → owner self.now t ≡ locale }
     {
