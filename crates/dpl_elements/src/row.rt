@@ -16,57 +16,54 @@ use dpl_loop::{Row, STRIP, Strip};
 use dpl_nodes::{ArrayName, Spot};
 use dpl_tree::Assign;
 
-// What an operator makes of elements that stand side by side and of ints for them; nothing of an operator that divides.
+// What an operator makes of elements that stand side by side and of ints for them, in the ints' strip; nothing of an operator that divides.
 fn changed<A: Arrays>(
     name: &ArrayName<'_>,
     op: Assign,
     at: Row,
-    strip: Strip,
+    strip: &mut Strip,
     frame: &Frame<A>,
-) -> Strip
-    ensures size { result.size ≤ strip.size }
-    ensures divides { 0 < result.size → assign_divides op ≡ false }
-    ensures words { (k : ℕ) (old : ℤ) → k < result.size → k < 64 → held_at (behind k at) (array_at name.now.slot frame.now.memory) ≡ Some old
-        → assigned op None (Int old) (Int (get_or strip.words k (pos 0))) ≡ Int (get_or result.words k (pos 0)) }
+)
+    ensures size { strip.new.size ≤ strip.old.size }
+    ensures divides { 0 < strip.new.size → assign_divides op ≡ false }
+    ensures words { (k : ℕ) (old : ℤ) → k < strip.new.size → k < 64 → held_at (behind k at) (array_at name.now.slot frame.now.memory) ≡ Some old
+        → assigned op None (Int old) (Int (get_or strip.old.words k (pos 0))) ≡ Int (get_or strip.new.words k (pos 0)) }
 {
     if replaces(op) {
-        return strip;
+        return;
     }
     if divides(op) {
-        return Strip::none(strip.row);
+        strip.size = 0;
+        return;
     }
     let old = frame.run(name.slot, at);
     let size = strip.size.min(old.len()).min(STRIP);
-    let mut words = strip.words;
     for k in 0..size {
-        words[k] = assigned(op, old[k], words[k]);
+        strip.words[k] = assigned(op, old[k], strip.words[k]);
     }
-    Strip {
-        row: strip.row,
-        words,
-        size,
-    }
+    strip.size = size;
 }
 
-/// Puts the ints of a strip into the elements at the indices of a row, at most so many of them, as an operator makes them; how many.
+/// Puts the ints of a strip into the elements at the indices of a row, at most so many of them, as an operator makes them; how many. The
+/// strip is used up.
 pub fn put_row<A: Arrays>(
     name: &ArrayName<'_>,
     op: Assign,
     sign: &Spot,
     at: Row,
-    strip: Strip,
+    strip: &mut Strip,
     most: usize,
     frame: &mut Frame<A>,
 ) -> usize
     ensures most { result ≤ most }
-    ensures strip { result ≤ strip.size }
+    ensures strip { result ≤ strip.old.size }
     ensures cap { result ≤ 64 }
     ensures put { (arrays : List Held) × (frame.new ≡ with_memory (record frame.old.memory { arrays = arrays }) frame.old)
-        × ArePut frame.old.limits name.now (signed op sign.now) at strip result frame.old.memory.arrays arrays }
+        × ArePut frame.old.limits name.now (signed op sign.now) at strip.old result frame.old.memory.arrays arrays }
 {
     // Nothing is read here: that an index has coordinates, and that a row moves on, are clauses of these calls.
     let _ = (at.first().rank(), at.step());
-    let strip = changed(name, op, at, strip, frame);
+    changed(name, op, at, strip, frame);
     let size = strip.size.min(most).min(STRIP);
     frame.put_run(name.slot, at, &strip.words[..size])
 }

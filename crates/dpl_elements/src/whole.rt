@@ -31,10 +31,10 @@ use crate::row::put_row;
 use dpl_dependence::{int_reads_own, truth_reads_own};
 use dpl_domain::Index;
 use dpl_frame::{Arrays, DomainWord, Frame};
-use dpl_loop::{Apart, OpenGate, Row, RunStop, Turns};
+use dpl_loop::{Apart, OpenGate, Row, RunStop, Strip, Turns};
 use dpl_nodes::{ArrayName, PromotedInt, PromotedTruth, Spot};
 use dpl_strips::index::coordinate;
-use dpl_strips::{promoted_strip, repeated};
+use dpl_strips::{promoted_ints, repeat};
 use dpl_tree::Assign;
 use dpl_values::budget::within_budget;
 use dpl_values::{Alone, int_domain, promoted_int_value, promoted_truth_value, truth_domain};
@@ -59,8 +59,9 @@ impl<'e> Turns for Fill<'e> {
     }
 
     fn make_row<A: Arrays>(&self, row: Row, most: usize, frame: &mut Frame<A>) -> usize {
-        let strip = repeated(row, self.value);
-        put_row(self.name, self.op, self.sign, row, strip, most, frame)
+        let mut strip = Strip::none(row);
+        repeat(&mut strip, self.value);
+        put_row(self.name, self.op, self.sign, row, &mut strip, most, frame)
     }
 
     fn apart(&self) -> Option<Apart<'_>> {
@@ -90,8 +91,9 @@ impl<'e, 'x> Turns for Promote<'e, 'x> {
     }
 
     fn make_row<A: Arrays>(&self, row: Row, most: usize, frame: &mut Frame<A>) -> usize {
-        let strip = promoted_strip(self.e, row, frame);
-        put_row(self.name, self.op, self.sign, row, strip, most, frame)
+        let mut strip = Strip::none(row);
+        promoted_ints(self.e, frame, &mut strip);
+        put_row(self.name, self.op, self.sign, row, &mut strip, most, frame)
     }
 
     fn apart(&self) -> Option<Apart<'_>> {

@@ -1,7 +1,9 @@
 -- The words of the turns of a row's indices, as the variables of the loop have them.
 -- Each lemma has an int or the words of a turn, or what is put into slots in it, on its left side.
-use Rattle.std.proofs.Common.{◌≡◌, ◌<◌, arith, ℕ, ℤ, pos, ◌+ℤ◌, ◌*ℤ◌, List, [], ◌∷◌, map, length, get_or, set, Option, IfSome, FitsSigned, w64, refl, sym, subst, ap, ◌∙◌}
-use Rattle.std.proofs.lemmas.Int.{int_wrap_fits}
+use Rattle.std.proofs.Common.{◌≡◌, ◌<◌, ◌+◌, arith, ℕ, ℤ, pos, ◌+ℤ◌, ◌*ℤ◌, List, [], ◌∷◌, map, length, get_or, set, Option, IfSome, FitsSigned, w64, refl, sym, subst, ap, ◌∙◌}
+use Rattle.std.proofs.lemmas.Int.{ints, int_wrap_fits}
+use Rattle.std.proofs.Math.IntN.{*ℤ_comm, suc_ℤ-*ℤ}
+use Rattle.std.proofs.Math.Numerals.{add-one}
 use Rattle.dpl_domain.specs.Ranks.{last_of}
 use Rattle.dpl_array.specs.Elements.{Row, along, behind}
 use Rattle.dpl_language.specs.Arithmetic.{wrap}
@@ -21,6 +23,13 @@ pub wrap-stepping : (step from : ℤ) (p : Pace) → FitsTurns step p → p ≡ 
 wrap-stepping step from p fits goes k below z is =
     let at : paced step p k ≡ z = ap (λ p. paced step p k) goes ∙ sym is in
     ap wrap (sym at) ∙ int_wrap_fits w64 (paced step p k) (fits k below)
+
+-- one step more
+pub further : (from step : ℤ) (k : ℕ) → (from +ℤ step *ℤ pos k) +ℤ step ≡ from +ℤ step *ℤ pos (k + 1)
+further from step k =
+    let next : step *ℤ pos (k + 1) ≡ step *ℤ pos k +ℤ step =
+        *ℤ_comm step (pos (k + 1)) ∙ ap (λ n. pos n *ℤ step) (add-one k) ∙ suc_ℤ-*ℤ (pos k) step ∙ ap (λ z. z +ℤ step) (*ℤ_comm (pos k) step) in
+    omega (arith, ints, next)
 
 -- ---- the variables of a loop
 -- words that are the same go the same

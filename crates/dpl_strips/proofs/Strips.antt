@@ -1,18 +1,21 @@
--- Words that are written one after another; and the values of sums, differences, products, quotients and remainders by those of both sides.
-use Rattle.std.proofs.Common.{◌≡◌, ◌≢◌, Bool, true, false, int_div, int_rem, ◌<◌, ◌+◌, ℕ, zero, suc, ℤ, pos, ◌+ℤ◌, ◌-ℤ◌, ◌*ℤ◌, List, length, get_or, set, replicate, Option, Result, Ok, arith, refl, sym, subst, ap, ◌∙◌, ◌⊎◌, ⊎_elim, inl, inr}
+-- Words that are written one after another; and the values of operators by those of both sides.
+use Rattle.std.proofs.Common.{◌≡◌, ◌≢◌, Bool, true, false, int_div, int_rem, ◌<◌, ◌≤◌, ◌+◌, ℕ, zero, suc, ℤ, pos, List, [], ◌∷◌, length, get_or, set, take, replicate, Option, Result, Ok, arith, refl, sym, subst, ap, ◌∙◌, ◌⊎◌, ⊎_elim, inl, inr}
 use Rattle.std.specs.Ordering.{int_eq}
-use Rattle.std.proofs.lemmas.List.{get_or-set_same, get_or-set_other}
+use Rattle.std.proofs.lemmas.List.{get_or-set_same, get_or-set_other, get_or-take}
 use Rattle.std.proofs.lemmas.Bool.Decides.{Decides-int_eq}
 use Rattle.dpl_syntax.specs.declared.place.Place.{Place}
 use Rattle.dpl_language.specs.Arithmetic.{wrap}
-use Rattle.dpl_array.specs.Elements.{behind}
-use Rattle.dpl_language.specs.Tree.{ExprTree, Add, Subtract, Multiply, Divide, Remainder}
+use Rattle.dpl_array.specs.Elements.{Row, behind}
+use Rattle.dpl_language.specs.Tree.{ExprTree, Divide, Remainder}
 use Rattle.dpl_language.specs.Values.{Value, Fault, Index, Int}
 use Rattle.dpl_language.specs.Expressions.{value_of}
 use Rattle.dpl_language.specs.Environment.{Limits}
 use Rattle.dpl_lowered.specs.Shapes.{nowhere, two}
 use Rattle.dpl_memory.specs.Memory.{Variable, Memory, in_memory}
 use Rattle.dpl_loop.specs.declared.strip.Strip.{Strip}
+use Rattle.dpl_strips.specs.declared.apply.Wrapping.{Wrapping}
+use Rattle.dpl_strips.specs.declared.apply.Wrapping.TheVariants as wrapping
+use Rattle.dpl_strips.specs.Strips.{HoldWhere, HoldsWhere, infix_of, made_by}
 
 -- one word more is written
 pub written : (Fits : ℕ → ℤ → Type 0) (ws : List ℤ) (k : ℕ) (w : ℤ) → k < length ws → ((j : ℕ) → j < k → Fits j (get_or ws j (pos 0))) → Fits k w → (j : ℕ) → j < k + 1 → Fits j (get_or (set ws k w) j (pos 0))
@@ -34,24 +37,34 @@ repeated zero k w below = absurd (omega (arith, below))
 repeated (suc n) zero w below = refl
 repeated (suc n) (suc k) w below = repeated n k w (omega (arith, below))
 
--- what strips hold: each int is what is meant at its index, in each memory that suits the index
-abbrev HoldsWhere : (Index → Memory → Type 0) → (Index → Memory → Result Value Fault) → Strip → Type 0
-HoldsWhere Suits meaning strip =
-    (k : ℕ) → k < strip.size → k < 64 → (u : Memory) → Suits (behind k strip.row) u → meaning (behind k strip.row) u ≡ Ok (Int (get_or strip.words k (pos 0)))
+-- what is made of the ints of a strip and of words on their right, where that makes the whole's value of theirs
+pub both-hold : (Suits : Index → Memory → Type 0) (left_at right_at whole_at : Index → Memory → Result Value Fault) (op : Wrapping)
+    → ((t : Index) (u : Memory) (x y : ℤ) → left_at t u ≡ Ok (Int x) → right_at t u ≡ Ok (Int y) → whole_at t u ≡ Ok (Int (made_by op x y)))
+    → (left made : Strip) (size : ℕ) (word : ℕ → ℤ) → made.row ≡ left.row → made.size ≤ left.size → ((k : ℕ) → k < made.size → k < 64 → k < size)
+    → HoldsWhere Suits left_at left → HoldWhere Suits right_at left.row size word
+    → ((k : ℕ) → k < made.size → k < 64 → get_or made.words k (pos 0) ≡ made_by op (get_or left.words k (pos 0)) (word k)) → HoldsWhere Suits whole_at made
+both-hold Suits left_at right_at whole_at op whole left made size word beside fewer in_right left_holds right_holds words k below within u suits =
+    let there : Suits (behind k left.row) u = subst (λ row. Suits (behind k row) u) beside suits in
+    ap (λ row. whole_at (behind k row) u) beside
+    ∙ whole (behind k left.row) u (get_or left.words k (pos 0)) (word k) (left_holds k (omega (arith, below, fewer)) within u there)
+    (right_holds k (in_right k below within) within u there)
+    ∙ ap (λ n. Ok (Int n)) (sym (words k below within))
 
--- what is made of the ints of two strips, where that makes the whole's value of theirs
-pub both-hold : (Suits : Index → Memory → Type 0) (left_at right_at whole_at : Index → Memory → Result Value Fault) (apply : ℤ → ℤ → ℤ)
-    → ((t : Index) (u : Memory) (x y : ℤ) → left_at t u ≡ Ok (Int x) → right_at t u ≡ Ok (Int y) → whole_at t u ≡ Ok (Int (apply x y)))
-    → (left right made : Strip) → right.row ≡ left.row → made.row ≡ left.row → ((k : ℕ) → k < made.size → k < left.size) → ((k : ℕ) → k < made.size → k < right.size)
-    → HoldsWhere Suits left_at left → HoldsWhere Suits right_at right
-    → ((k : ℕ) → k < 64 → get_or made.words k (pos 0) ≡ apply (get_or left.words k (pos 0)) (get_or right.words k (pos 0)))
-    → HoldsWhere Suits whole_at made
-both-hold Suits left_at right_at whole_at apply whole left right made beside behind_left in_left in_right left_holds right_holds words k below within u suits =
-    ap (λ t. whole_at (behind k t) u) behind_left
-    ∙ whole (behind k left.row) u (get_or left.words k (pos 0)) (get_or right.words k (pos 0))
-    (left_holds k (in_left k below) within u (subst (λ t. Suits (behind k t) u) behind_left suits))
-    (ap (λ t. right_at (behind k t) u) (sym beside) ∙ right_holds k (in_right k below) within u (subst (λ t. Suits (behind k t) u) (behind_left ∙ sym beside) suits))
-    ∙ ap (λ n. Ok (Int n)) (sym (words k within))
+-- so many words at the most are taken
+pub take-few : (n : ℕ) (ws : List ℤ) → length (take n ws) ≤ n
+take-few zero ws = omega arith
+take-few (suc n) [] = omega arith
+take-few (suc n) (w ∷ ws) = omega (arith, take-few n ws)
+
+-- the first words of a strip are what its ints are
+pub first-hold : (Suits : Index → Memory → Type 0) (at : Index → Memory → Result Value Fault) (row : Row) (strip : Strip) (n : ℕ) → strip.row ≡ row
+    → n ≤ strip.size → HoldsWhere Suits at strip
+    → HoldWhere Suits at row (length (take n strip.words)) (λ k. get_or (take n strip.words) k (pos 0))
+first-hold Suits at row strip n beside small holds k within below u suits =
+    let inside : k < n = omega (arith, within, take-few n strip.words) in
+    ap (λ row. at (behind k row) u) (sym beside)
+    ∙ holds k (omega (arith, inside, small)) below u (subst (λ row. Suits (behind k row) u) (sym beside) suits)
+    ∙ ap (λ n. Ok (Int n)) (sym (get_or-take n strip.words k (pos 0) inside))
 
 not_zero : (y : ℤ) → y ≢ pos 0 → int_eq y (pos 0) ≡ false
 not_zero y some = by (int_eq y (pos 0)) (Decides-int_eq y (pos 0)).0
@@ -61,14 +74,10 @@ not_zero y some = by (int_eq y (pos 0)) (Decides-int_eq y (pos 0)).0
     by false is = refl
 
 module _ (limits : Limits) (a b : ExprTree Variable) (t : Option Index) (s : Memory) (x y : ℤ) (left : value_of limits in_memory a t s ≡ Ok (Int x)) (right : value_of limits in_memory b t s ≡ Ok (Int y)) where
-  pub sum-at : value_of limits in_memory (two a nowhere Add b) t s ≡ Ok (Int (wrap (x +ℤ y)))
-  sum-at = rw left (rw right refl)
-
-  pub difference-at : value_of limits in_memory (two a nowhere Subtract b) t s ≡ Ok (Int (wrap (x -ℤ y)))
-  difference-at = rw left (rw right refl)
-
-  pub product-at : value_of limits in_memory (two a nowhere Multiply b) t s ≡ Ok (Int (wrap (x *ℤ y)))
-  product-at = rw left (rw right refl)
+  pub both-at : (op : Wrapping) → value_of limits in_memory (two a nowhere (infix_of op) b) t s ≡ Ok (Int (made_by op x y))
+  both-at wrapping.Sum = rw left (rw right refl)
+  both-at wrapping.Difference = rw left (rw right refl)
+  both-at wrapping.Product = rw left (rw right refl)
 
   -- where the divisor isn't 0
   pub quotient-at : (at : Place) → y ≢ pos 0 → value_of limits in_memory (two a at Divide b) t s ≡ Ok (Int (wrap (int_div x y)))

@@ -1,8 +1,10 @@
 -- Ints of several indices at once, and how far turns may change a memory before they are used.
 -- A strip is evaluated before those turns, and each of its ints is the value in the turn of its index all the same.
-use Rattle.std.specs.Prelude.{◌≡◌, ◌≢◌, ◌<◌, ℕ, ℤ, pos, ◌+ℤ◌, ◌*ℤ◌, List, [], ◌∷◌, get_or, set, None, Result, Ok, FitsSigned}
+use Rattle.std.specs.Prelude.{◌≡◌, ◌≢◌, ◌<◌, ℕ, ℤ, pos, ◌+ℤ◌, ◌-ℤ◌, ◌*ℤ◌, List, [], ◌∷◌, length, get_or, set, None, Result, Ok, FitsSigned}
 use Rattle.std.specs.Int.{w64}
 use Rattle.dpl_array.specs.Elements.{Row, behind}
+use Rattle.dpl_language.specs.Tree.{Infix, Add, Subtract, Multiply}
+use Rattle.dpl_language.specs.Arithmetic.{wrap}
 use Rattle.dpl_language.specs.Values.{Value, Int, Domain, Index, index_of, Fault}
 use Rattle.dpl_language.specs.Outcome.{with_ok}
 use Rattle.dpl_language.specs.Environment.{Limits}
@@ -17,16 +19,28 @@ use Rattle.dpl_nodes.specs.Steps.{names_view}
 use Rattle.dpl_loop.specs.declared.strip.Strip.{Strip}
 use Rattle.dpl_strips.specs.declared.pace.Pace.{Pace}
 use Rattle.dpl_strips.specs.declared.pace.Pace.TheVariants.{Steady, Stepping}
+use Rattle.dpl_strips.specs.declared.apply.Wrapping.{Wrapping}
+use Rattle.dpl_strips.specs.declared.apply.Wrapping.TheVariants as op
+use Rattle.dpl_strips.specs.declared.apply.Right.{Right}
+use Rattle.dpl_strips.specs.declared.apply.Right.TheVariants as right
 
 -- what is found at an index is the same in two memories: elements at other indices may differ
 pub record IsSameAt (t : Index) (s u : Memory) : Type 0 where
   pub words : u.words ≡ s.words
   pub elements : (slot : ℕ) → held_at t (array_at slot u) ≡ held_at t (array_at slot s)
 
+-- each of so many words is the int that is meant at its index of a row, in each memory that suits the index
+abbrev pub HoldWhere : (Index → Memory → Type 0) → (Index → Memory → Result Value Fault) → Row → ℕ → (ℕ → ℤ) → Type 0
+HoldWhere Suits meaning row size word =
+    (k : ℕ) → k < size → k < 64 → (u : Memory) → Suits (behind k row) u → meaning (behind k row) u ≡ Ok (Int (word k))
+
+-- and so are the ints of a strip
+abbrev pub HoldsWhere : (Index → Memory → Type 0) → (Index → Memory → Result Value Fault) → Strip → Type 0
+HoldsWhere Suits meaning strip = HoldWhere Suits meaning strip.row strip.size (λ k. get_or strip.words k (pos 0))
+
 -- each int of a strip is the value at its index, also where elements at other indices have changed
 abbrev pub HoldsAtIndices : (Index → Memory → Result Value Fault) → Memory → Strip → Type 0
-HoldsAtIndices meaning s strip =
-    (k : ℕ) → k < strip.size → k < 64 → (u : Memory) → IsSameAt (behind k strip.row) s u → meaning (behind k strip.row) u ≡ Ok (Int (get_or strip.words k (pos 0)))
+HoldsAtIndices meaning s strip = HoldsWhere (λ t u. IsSameAt t s u) meaning strip
 
 -- a memory in the turn of an index: the variables of the loop hold the index, and else the word and the array of one slot alone may have
 -- changed
@@ -37,8 +51,31 @@ pub record IsInTurn (names : Names) (target : ℕ) (t : Index) (s u : Memory) : 
 
 -- each int of a strip is the value in the turn of its index
 abbrev pub HoldsInTurns : Names → ℕ → (Memory → Result Value Fault) → Memory → Strip → Type 0
-HoldsInTurns names target meaning s strip =
-    (k : ℕ) → k < strip.size → k < 64 → (u : Memory) → IsInTurn names target (behind k strip.row) s u → meaning u ≡ Ok (Int (get_or strip.words k (pos 0)))
+HoldsInTurns names target meaning s strip = HoldsWhere (λ t u. IsInTurn names target t s u) (λ t u. meaning u) strip
+
+-- OPERATORS that have no fault: how they stand in a tree, and what they make of two ints
+abbrev pub infix_of : Wrapping → Infix
+infix_of op.Sum = Add
+infix_of op.Difference = Subtract
+infix_of op.Product = Multiply
+
+abbrev pub made_by : Wrapping → ℤ → ℤ → ℤ
+made_by op.Sum x y = wrap (x +ℤ y)
+made_by op.Difference x y = wrap (x -ℤ y)
+made_by op.Product x y = wrap (x *ℤ y)
+
+-- what stands on their right: of one int as many as there may be in a strip
+abbrev pub right_size : Right → ℕ
+right_size (right.Int n) = 64
+right_size (right.Words ws) = length ws.now
+
+abbrev pub right_word : Right → ℕ → ℤ
+right_word (right.Int n) k = n
+right_word (right.Words ws) k = get_or ws.now k (pos 0)
+
+-- it is what is meant at the indices of a row
+abbrev pub RightHolds : (Index → Memory → Type 0) → (Index → Memory → Result Value Fault) → Row → Right → Type 0
+RightHolds Suits meaning row r = HoldWhere Suits meaning row (right_size r) (right_word r)
 
 -- the int in the k-th turn of one that goes so along a row of such a step
 abbrev pub paced : ℤ → Pace → ℕ → ℤ

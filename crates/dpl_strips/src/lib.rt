@@ -5,11 +5,13 @@
 // where it reads the word or the array that the turn writes (specs/Strips.antt: `IsSameAt`, `IsInTurn`).
 #![tactic(auto)]
 
+mod apply;
 pub mod index;
 pub mod number;
 mod pace;
 mod strip;
 mod turn_strips;
 
-pub use strip::{promoted_strip, repeated};
-pub use turn_strips::{turn_row, turn_strip};
+pub use apply::repeat;
+pub use strip::{promoted_ints, promoted_strip};
+pub use turn_strips::{turn_ints, turn_row};

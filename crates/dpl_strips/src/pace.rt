@@ -127,8 +127,8 @@ fn local<A: Arrays>(slot: usize, names: &Names<'_>, row: Row, frame: &Frame<A>) 
     }
 }
 
-/// How an int goes through the turns of a row's indices, as far as that is told by its text and by what the frame holds. An int in which an element, a quotient or more than sums and differences stand has no pace, nor has one in which the slot
-/// stands that the turns may write.
+/// How an int goes through the turns of a row's indices, as far as that is told by its text and by what the frame holds. An int in which an
+/// element, a quotient or more than sums and differences stand has no pace, nor has one in which the slot stands that the turns may write.
 pub(crate) fn pace_of<A: Arrays>(
     e: &IntExpr<'_>,
     names: &Names<'_>,

@@ -1,145 +1,23 @@
 // The values of a promoted int at several indices at once, where that needs no look at each: whole arrays, ints at hand, sums,
-// differences and products of these, and quotients and remainders by an int at hand. And what strips are made of.
-// A function of its own makes what stands for each operator: what a node is made of is cleared at the entry of its function, and so a
-// function for all of them would clear the strips of each.
+// differences and products of these, and quotients and remainders by an int at hand.
+// All is made in the caller's strip. An operator's right side that is an int or lies in an array is read where it is; only one that is made
+// of operators itself has a strip of its own, in a function apart: what a function may need is cleared at its entry.
 
-ghost use Rattle.std.specs.Prelude.{◌≡◌, ◌≢◌, ◌<◌, ℕ, pos, neg_ℤ, int_div, int_rem, Ok, Some, get_or, slice_get, IfSome};
+ghost use Rattle.std.specs.Prelude.{◌≡◌, ◌<◌, ℕ, pos, Ok, Some, get_or, slice_get, IfSome};
 ghost use Rattle.dpl_syntax.specs.declared.place.Place.{Place};
-ghost use Rattle.dpl_language.specs.Tree.{Minus, Add, Subtract, Multiply, Divide, Remainder, Prefixed};
-ghost use Rattle.dpl_language.specs.Arithmetic.{wrap};
+ghost use Rattle.dpl_language.specs.Tree.{Minus, Divide, Remainder, Prefixed};
 ghost use Rattle.dpl_language.specs.Values.{Int, Index as IndexValue};
 ghost use Rattle.dpl_language.specs.Expressions.{value_of};
 ghost use Rattle.dpl_lowered.specs.LoweredExpressions.{EachTurn};
 ghost use Rattle.dpl_lowered.specs.Shapes.{nowhere, two};
 ghost use Rattle.dpl_memory.specs.Memory.{Memory, in_memory};
 ghost use Rattle.dpl_nodes.specs.Typed.{promoted_int};
-ghost use Rattle.dpl_strips.specs.Strips.{HoldsAtIndices};
+ghost use Rattle.dpl_strips.specs.Strips.{IsSameAt, HoldsAtIndices, RightHolds, infix_of};
 
-use crate::number::{difference, negative, product, quotient, remainder, sum};
+use crate::apply::{Right, Wrapping, apply, copy, divide, leave, negate, repeat};
 use dpl_frame::{Arrays, Frame};
 use dpl_loop::{Row, STRIP, Strip};
 use dpl_nodes::{IntExpr, PromotedInt};
-
-/// One int at all indices of a row.
-pub fn repeated(row: Row, word: i64) -> Strip
-    ensures row { result.row ≡ row }
-    ensures words { (k : ℕ) → k < 64 → get_or result.words k (pos 0) ≡ word }
-{
-    Strip {
-        row,
-        words: [word; STRIP],
-        size: STRIP,
-    }
-}
-
-/// A strip of words that stand side by side.
-pub(crate) fn copied(row: Row, words: &[i64]) -> Strip
-    ensures row { result.row ≡ row }
-    ensures words { (k : ℕ) → k < result.size → k < 64 → slice_get words.now k ≡ Some (get_or result.words k (pos 0)) }
-{
-    let mut copies = [0; STRIP];
-    let size = words.len().min(STRIP);
-    for k in 0..size {
-        copies[k] = words[k];
-    }
-    Strip {
-        row,
-        words: copies,
-        size,
-    }
-}
-
-/// What an operator makes of the ints of two strips.
-#[inline(always)]
-pub(crate) fn both<F: Fn(i64, i64) -> i64>(left: &Strip, right: &Strip, apply: F) -> Strip
-    requires { F.IsAlwaysCallable apply }
-    ensures row { result.row ≡ left.now.row }
-    ensures left { (k : ℕ) → k < result.size → k < left.now.size }
-    ensures right { (k : ℕ) → k < result.size → k < right.now.size }
-    ensures words { (k : ℕ) → k < 64 → F.post apply (get_or left.now.words k (pos 0)) (get_or right.now.words k (pos 0)) (get_or result.words k (pos 0)) }
-{
-    let mut made = [0; STRIP];
-    for k in 0..STRIP {
-        made[k] = apply(left.words[k], right.words[k]);
-    }
-    Strip {
-        row: left.row,
-        words: made,
-        size: left.size.min(right.size),
-    }
-}
-
-/// What an operator makes of the ints of a strip, each with one int on its right.
-#[inline(always)]
-pub(crate) fn with_each<F: Fn(i64, i64) -> i64>(left: &Strip, right: i64, apply: F) -> Strip
-    requires { F.IsAlwaysCallable apply }
-    ensures row { result.row ≡ left.now.row }
-    ensures size { result.size ≡ left.now.size }
-    ensures words { (k : ℕ) → k < 64 → F.post apply (get_or left.now.words k (pos 0)) right (get_or result.words k (pos 0)) }
-{
-    let mut made = [0; STRIP];
-    for k in 0..STRIP {
-        made[k] = apply(left.words[k], right);
-    }
-    Strip {
-        row: left.row,
-        words: made,
-        size: left.size,
-    }
-}
-
-/// The ints of a strip with the other sign.
-pub(crate) fn negated(strip: &Strip) -> Strip
-    ensures row { result.row ≡ strip.now.row }
-    ensures size { result.size ≡ strip.now.size }
-    ensures words { (k : ℕ) → k < 64 → get_or result.words k (pos 0) ≡ wrap (neg_ℤ (get_or strip.now.words k (pos 0))) }
-{
-    let mut negatives = [0; STRIP];
-    for k in 0..STRIP {
-        negatives[k] = negative(strip.words[k]);
-    }
-    Strip {
-        row: strip.row,
-        words: negatives,
-        size: strip.size,
-    }
-}
-
-/// The ints of a strip, each divided by one int.
-pub(crate) fn quotients(strip: &Strip, by: i64) -> Strip
-    requires { by ≢ pos 0 }
-    ensures row { result.row ≡ strip.now.row }
-    ensures size { result.size ≡ strip.now.size }
-    ensures words { (k : ℕ) → k < 64 → get_or result.words k (pos 0) ≡ wrap (int_div (get_or strip.now.words k (pos 0)) by) }
-{
-    let mut made = [0; STRIP];
-    for k in 0..STRIP {
-        made[k] = quotient(strip.words[k], by);
-    }
-    Strip {
-        row: strip.row,
-        words: made,
-        size: strip.size,
-    }
-}
-
-/// What each int of a strip leaves when it is divided by one int.
-pub(crate) fn remainders(strip: &Strip, by: i64) -> Strip
-    requires { by ≢ pos 0 }
-    ensures row { result.row ≡ strip.now.row }
-    ensures size { result.size ≡ strip.now.size }
-    ensures words { (k : ℕ) → k < 64 → get_or result.words k (pos 0) ≡ wrap (int_rem (get_or strip.now.words k (pos 0)) by) }
-{
-    let mut made = [0; STRIP];
-    for k in 0..STRIP {
-        made[k] = remainder(strip.words[k], by);
-    }
-    Strip {
-        row: strip.row,
-        words: made,
-        size: strip.size,
-    }
-}
 
 // An int that is the same at all indices, as a slot holds it or as it stands in the text.
 fn steady<A: Arrays>(e: &PromotedInt<'_>, frame: &Frame<A>) -> Option<i64>
@@ -153,132 +31,155 @@ fn steady<A: Arrays>(e: &PromotedInt<'_>, frame: &Frame<A>) -> Option<i64>
     }
 }
 
+// A right side that needs no strip.
+fn right_of<'f, A: Arrays>(e: &PromotedInt<'_>, row: Row, frame: &'f Frame<A>) -> Option<Right<'f>>
+    ensures { IfSome result (RightHolds (λ i u. IsSameAt i frame.now.memory u)
+        (λ i u. value_of frame.now.limits in_memory (promoted_int EachTurn e.now) (Some i) u) row) }
+{
+    match e {
+        PromotedInt::Element(slot, _) => Some(Right::Words(frame.run(*slot, row))),
+        _ => match steady(e, frame) {
+            Some(n) => Some(Right::Int(n)),
+            None => None,
+        },
+    }
+}
+
 // One int, if it is at hand, everywhere.
-#[inline(never)]
-fn scalars<A: Arrays>(e: &PromotedInt<'_>, row: Row, frame: &Frame<A>) -> Strip
-    ensures row { result.row ≡ row }
-    ensures values { HoldsAtIndices (λ i u. value_of frame.now.limits in_memory (promoted_int EachTurn e.now) (Some i) u) frame.now.memory result }
+fn scalar<A: Arrays>(e: &PromotedInt<'_>, frame: &Frame<A>, strip: &mut Strip)
+    ensures row { strip.new.row ≡ strip.old.row }
+    ensures values { HoldsAtIndices (λ i u. value_of frame.now.limits in_memory (promoted_int EachTurn e.now) (Some i) u) frame.now.memory strip.new }
 {
     match steady(e, frame) {
-        Some(n) => repeated(row, n),
-        None => Strip::none(row),
+        Some(n) => repeat(strip, n),
+        None => strip.size = 0,
     }
 }
 
 // Promoted ints with the other sign.
 #[cycle(promoted)]
 #[inline(never)]
-fn negatives<A: Arrays>(e: &PromotedInt<'_>, row: Row, frame: &Frame<A>) -> Strip
-    ensures row { result.row ≡ row }
+fn negatives<A: Arrays>(e: &PromotedInt<'_>, frame: &Frame<A>, strip: &mut Strip)
+    ensures row { strip.new.row ≡ strip.old.row }
     ensures values { HoldsAtIndices (λ i u. value_of frame.now.limits in_memory (Prefixed nowhere Minus (promoted_int EachTurn e.now))
-        (Some i) u) frame.now.memory result }
+        (Some i) u) frame.now.memory strip.new }
 {
-    negated(&promoted_strip(e, row, frame))
+    promoted_ints(e, frame, strip);
+    negate(strip);
 }
 
-// Sums of promoted ints.
+// What an operator makes of two promoted ints, of which the right one has a strip of its own.
 #[cycle(promoted)]
 #[inline(never)]
-fn sums<A: Arrays>(a: &PromotedInt<'_>, b: &PromotedInt<'_>, row: Row, frame: &Frame<A>) -> Strip
-    ensures row { result.row ≡ row }
-    ensures values { HoldsAtIndices (λ i u. value_of frame.now.limits in_memory
-        (two (promoted_int EachTurn a.now) nowhere Add (promoted_int EachTurn b.now)) (Some i) u) frame.now.memory result }
-{
-    let left = promoted_strip(a, row, frame);
-    match steady(b, frame) {
-        Some(n) => with_each(&left, n, sum),
-        None => both(&left, &promoted_strip(b, row, frame), sum),
-    }
-}
-
-// Their differences.
-#[cycle(promoted)]
-#[inline(never)]
-fn differences<A: Arrays>(
+fn of_two<A: Arrays>(
+    op: Wrapping,
     a: &PromotedInt<'_>,
     b: &PromotedInt<'_>,
-    row: Row,
     frame: &Frame<A>,
-) -> Strip
-    ensures row { result.row ≡ row }
+    strip: &mut Strip,
+)
+    ensures row { strip.new.row ≡ strip.old.row }
     ensures values { HoldsAtIndices (λ i u. value_of frame.now.limits in_memory
-        (two (promoted_int EachTurn a.now) nowhere Subtract (promoted_int EachTurn b.now)) (Some i) u) frame.now.memory result }
+        (two (promoted_int EachTurn a.now) nowhere (infix_of op) (promoted_int EachTurn b.now)) (Some i) u) frame.now.memory strip.new }
 {
-    let left = promoted_strip(a, row, frame);
-    match steady(b, frame) {
-        Some(n) => with_each(&left, n, difference),
-        None => both(&left, &promoted_strip(b, row, frame), difference),
-    }
+    let mut right = Strip::none(strip.row);
+    promoted_ints(a, frame, strip);
+    promoted_ints(b, frame, &mut right);
+    let size = right.size.min(STRIP);
+    apply(op, strip, Right::Words(&right.words[..size]));
 }
 
-// Their products.
+// What an operator makes of two promoted ints.
 #[cycle(promoted)]
 #[inline(never)]
-fn products<A: Arrays>(
+fn both<A: Arrays>(
+    op: Wrapping,
     a: &PromotedInt<'_>,
     b: &PromotedInt<'_>,
-    row: Row,
     frame: &Frame<A>,
-) -> Strip
-    ensures row { result.row ≡ row }
+    strip: &mut Strip,
+)
+    ensures row { strip.new.row ≡ strip.old.row }
     ensures values { HoldsAtIndices (λ i u. value_of frame.now.limits in_memory
-        (two (promoted_int EachTurn a.now) nowhere Multiply (promoted_int EachTurn b.now)) (Some i) u) frame.now.memory result }
+        (two (promoted_int EachTurn a.now) nowhere (infix_of op) (promoted_int EachTurn b.now)) (Some i) u) frame.now.memory strip.new }
 {
-    let left = promoted_strip(a, row, frame);
-    match steady(b, frame) {
-        Some(n) => with_each(&left, n, product),
-        None => both(&left, &promoted_strip(b, row, frame), product),
-    }
+    let Some(right) = right_of(b, strip.row, frame) else {
+        of_two(op, a, b, frame, strip);
+        return;
+    };
+    promoted_ints(a, frame, strip);
+    apply(op, strip, right);
 }
 
-// Their quotients, by an int at hand that isn't 0.
+// Quotients of promoted ints, by an int at hand that isn't 0.
 #[cycle(promoted)]
 #[inline(never)]
-fn divided<A: Arrays>(a: &PromotedInt<'_>, b: &PromotedInt<'_>, row: Row, frame: &Frame<A>) -> Strip
-    ensures row { result.row ≡ row }
+fn quotients<A: Arrays>(
+    a: &PromotedInt<'_>,
+    b: &PromotedInt<'_>,
+    frame: &Frame<A>,
+    strip: &mut Strip,
+)
+    ensures row { strip.new.row ≡ strip.old.row }
     ensures values { (at : Place) → HoldsAtIndices (λ i u. value_of frame.now.limits in_memory
-        (two (promoted_int EachTurn a.now) at Divide (promoted_int EachTurn b.now)) (Some i) u) frame.now.memory result }
+        (two (promoted_int EachTurn a.now) at Divide (promoted_int EachTurn b.now)) (Some i) u) frame.now.memory strip.new }
 {
     match steady(b, frame) {
-        Some(n) if n != 0 => quotients(&promoted_strip(a, row, frame), n),
-        _ => Strip::none(row),
+        Some(n) if n != 0 => {
+            promoted_ints(a, frame, strip);
+            divide(strip, n);
+        }
+        _ => strip.size = 0,
     }
 }
 
 // Their remainders, by such an int.
 #[cycle(promoted)]
 #[inline(never)]
-fn left_over<A: Arrays>(
+fn remainders<A: Arrays>(
     a: &PromotedInt<'_>,
     b: &PromotedInt<'_>,
-    row: Row,
     frame: &Frame<A>,
-) -> Strip
-    ensures row { result.row ≡ row }
+    strip: &mut Strip,
+)
+    ensures row { strip.new.row ≡ strip.old.row }
     ensures values { (at : Place) → HoldsAtIndices (λ i u. value_of frame.now.limits in_memory
-        (two (promoted_int EachTurn a.now) at Remainder (promoted_int EachTurn b.now)) (Some i) u) frame.now.memory result }
+        (two (promoted_int EachTurn a.now) at Remainder (promoted_int EachTurn b.now)) (Some i) u) frame.now.memory strip.new }
 {
     match steady(b, frame) {
-        Some(n) if n != 0 => remainders(&promoted_strip(a, row, frame), n),
-        _ => Strip::none(row),
+        Some(n) if n != 0 => {
+            promoted_ints(a, frame, strip);
+            leave(strip, n);
+        }
+        _ => strip.size = 0,
     }
 }
 
-/// The values of a promoted int at the indices of a row, as far as they are found at once. There may be none. They stay the values there
-/// while elements at other indices change.
+/// Makes a strip the values of a promoted int at the indices of its row, as far as they are found at once. There may be none. They stay the
+/// values there while elements at other indices change.
 #[cycle(promoted)]
+pub fn promoted_ints<A: Arrays>(e: &PromotedInt<'_>, frame: &Frame<A>, strip: &mut Strip)
+    ensures row { strip.new.row ≡ strip.old.row }
+    ensures values { HoldsAtIndices (λ i u. value_of frame.now.limits in_memory (promoted_int EachTurn e.now) (Some i) u) frame.now.memory strip.new }
+{
+    match e {
+        PromotedInt::Scalar(_) => scalar(e, frame, strip),
+        PromotedInt::Element(slot, _) => copy(strip, frame.run(*slot, strip.row)),
+        PromotedInt::Negative(e) => negatives(e, frame, strip),
+        PromotedInt::Sum(a, b) => both(Wrapping::Sum, a, b, frame, strip),
+        PromotedInt::Difference(a, b) => both(Wrapping::Difference, a, b, frame, strip),
+        PromotedInt::Product(a, b) => both(Wrapping::Product, a, b, frame, strip),
+        PromotedInt::Quotient(a, b, _) => quotients(a, b, frame, strip),
+        PromotedInt::Remainder(a, b, _) => remainders(a, b, frame, strip),
+    }
+}
+
+/// The same as a strip of its own, over a row.
 pub fn promoted_strip<A: Arrays>(e: &PromotedInt<'_>, row: Row, frame: &Frame<A>) -> Strip
     ensures row { result.row ≡ row }
     ensures values { HoldsAtIndices (λ i u. value_of frame.now.limits in_memory (promoted_int EachTurn e.now) (Some i) u) frame.now.memory result }
 {
-    match e {
-        PromotedInt::Scalar(_) => scalars(e, row, frame),
-        PromotedInt::Element(slot, _) => copied(row, frame.run(*slot, row)),
-        PromotedInt::Negative(e) => negatives(e, row, frame),
-        PromotedInt::Sum(a, b) => sums(a, b, row, frame),
-        PromotedInt::Difference(a, b) => differences(a, b, row, frame),
-        PromotedInt::Product(a, b) => products(a, b, row, frame),
-        PromotedInt::Quotient(a, b, _) => divided(a, b, row, frame),
-        PromotedInt::Remainder(a, b, _) => left_over(a, b, row, frame),
-    }
+    let mut strip = Strip::none(row);
+    promoted_ints(e, frame, &mut strip);
+    strip
 }

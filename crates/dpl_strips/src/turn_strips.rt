@@ -1,51 +1,49 @@
 // The ints of an expression in several turns of a loop at once, and where the elements lie that these turns find.
-// What is read is read before the turns, and so from no slot that they write. Each operator has a function of its own (see strip.rt).
+// What is read is read before the turns, and so from no slot that they write. Strips are made as in strip.rt.
 
-ghost use Rattle.std.specs.Prelude.{◌≡◌, ◌<◌, ℕ, pos, ◌+ℤ◌, ◌*ℤ◌, None, get_or, IfSome};
+ghost use Rattle.std.specs.Prelude.{◌≡◌, ◌<◌, ℕ, pos, ◌+ℤ◌, ◌*ℤ◌, None, get_or, length, IfSome};
 ghost use Rattle.dpl_syntax.specs.declared.place.Place.{Place};
 ghost use Rattle.dpl_language.specs.Arithmetic.{wrap};
-ghost use Rattle.dpl_language.specs.Tree.{IntKind, Minus, Add, Subtract, Multiply, Divide, Remainder, Prefixed};
+ghost use Rattle.dpl_language.specs.Tree.{IntKind, Minus, Divide, Remainder, Prefixed};
 ghost use Rattle.dpl_language.specs.Expressions.{value_of};
 ghost use Rattle.dpl_lowered.specs.Shapes.{nowhere, two};
 ghost use Rattle.dpl_memory.specs.Memory.{in_memory};
 ghost use Rattle.dpl_nodes.specs.declared.tree.IndexExpr.{Tuple as TupleIndex};
 ghost use Rattle.dpl_nodes.specs.Typed.{array_named, in_square, index_items, int_view};
-ghost use Rattle.dpl_strips.specs.Strips.{paced, FitsTurns, HoldsInTurns, GoesFrom};
+ghost use Rattle.dpl_strips.specs.Strips.{paced, FitsTurns, IsInTurn, HoldWhere, HoldsInTurns, RightHolds, GoesFrom, infix_of};
 
+use crate::apply::{Right, Wrapping, apply, copy, divide, leave, negate, repeat};
 use crate::index::{coordinate, plane, space};
-use crate::number::{difference, product, sum};
+use crate::number::sum;
 use crate::pace::{Pace, first_step, pace_of, steady};
-use crate::strip::{both, copied, negated, quotients, remainders, repeated, with_each};
 use dpl_domain::Index;
 use dpl_frame::{Arrays, Frame};
 use dpl_loop::{Row, STRIP, Strip};
 use dpl_nodes::{IndexExpr, IntExpr, Names};
 
-// Ints that follow one another by the row's step.
-fn counted(row: Row, from: i64) -> Strip
-    ensures row { result.row ≡ row }
-    ensures words { (k : ℕ) → k < 64 → get_or result.words k (pos 0) ≡ wrap (from +ℤ row.step *ℤ pos k) }
+// Ints that follow one another by the step of a strip's row.
+fn count(strip: &mut Strip, from: i64)
+    ensures row { strip.new.row ≡ strip.old.row }
+    ensures words { (k : ℕ) → k < 64 → get_or strip.new.words k (pos 0) ≡ wrap (from +ℤ strip.old.row.step *ℤ pos k) }
 {
-    let step = row.step();
-    let mut words = [0; STRIP];
+    let step = strip.row.step();
+    let mut next = from;
     for k in 0..STRIP {
-        words[k] = sum(from, product(step, k as i64));
+        strip.words[k] = next;
+        next = sum(next, step);
     }
-    Strip {
-        row,
-        words,
-        size: STRIP,
-    }
+    strip.size = STRIP;
 }
 
 // The ints of one that goes so.
-fn of_pace(row: Row, pace: Pace) -> Strip
-    ensures row { result.row ≡ row }
-    ensures words { FitsTurns row.step pace → (k : ℕ) → k < 64 → get_or result.words k (pos 0) ≡ paced row.step pace k }
+fn pace(strip: &mut Strip, pace: Pace)
+    ensures row { strip.new.row ≡ strip.old.row }
+    ensures words { FitsTurns strip.old.row.step pace → (k : ℕ) → k < 64
+        → get_or strip.new.words k (pos 0) ≡ paced strip.old.row.step pace k }
 {
     match pace {
-        Pace::Steady(n) => repeated(row, n),
-        Pace::Stepping(from) => counted(row, from),
+        Pace::Steady(n) => repeat(strip, n),
+        Pace::Stepping(from) => count(strip, from),
     }
 }
 
@@ -107,43 +105,83 @@ pub fn turn_row<A: Arrays>(
 }
 
 // The elements of an array that the turns find, where they lie side by side and no turn writes them.
-fn of_element<A: Arrays>(
+fn elements<'f, A: Arrays>(
     slot: usize,
     index: &IndexExpr<'_>,
     names: &Names<'_>,
     target: usize,
     row: Row,
-    frame: &Frame<A>,
-) -> Strip
-    ensures row { result.row ≡ row }
-    ensures values { (at : Place)
-        → HoldsInTurns names.now target (λ u. value_of frame.now.limits in_memory
-        (in_square (array_named IntKind slot at) (index_items index.now)) None u) frame.now.memory result }
+    frame: &'f Frame<A>,
+) -> Option<&'f [i64]>
+    ensures { (at : Place) → IfSome result (λ words. HoldWhere (λ t u. IsInTurn names.now target t frame.now.memory u)
+        (λ t u. value_of frame.now.limits in_memory (in_square (array_named IntKind slot at) (index_items index.now)) None u)
+        row (length words.now) (λ k. get_or words.now k (pos 0))) }
 {
     if slot == target {
-        return Strip::none(row);
+        return None;
     }
-    match turn_row(index, names, target, row, frame) {
-        Some(at) => copied(row, frame.run(slot, at)),
-        None => Strip::none(row),
-    }
+    let at = turn_row(index, names, target, row, frame)?;
+    Some(frame.run(slot, at))
 }
 
-// The ints of one whose pace is told.
-#[inline(never)]
-fn of_leaf<A: Arrays>(
+// A right side that needs no strip.
+fn right_of<'f, A: Arrays>(
     e: &IntExpr<'_>,
     names: &Names<'_>,
     target: usize,
     row: Row,
-    frame: &Frame<A>,
-) -> Strip
-    ensures row { result.row ≡ row }
-    ensures values { HoldsInTurns names.now target (λ u. value_of frame.now.limits in_memory (int_view e.now) None u) frame.now.memory result }
+    frame: &'f Frame<A>,
+) -> Option<Right<'f>>
+    ensures { IfSome result (RightHolds (λ t u. IsInTurn names.now target t frame.now.memory u)
+        (λ t u. value_of frame.now.limits in_memory (int_view e.now) None u) row) }
 {
-    match pace_of(e, names, target, row, frame) {
-        Some(pace) => of_pace(row, pace),
-        None => Strip::none(row),
+    match e {
+        IntExpr::Element(slot, index, _) => {
+            match elements(*slot, index, names, target, row, frame) {
+                Some(words) => Some(Right::Words(words)),
+                None => None,
+            }
+        }
+        _ => match steady(e, names, target, row, frame) {
+            Some(n) => Some(Right::Int(n)),
+            None => None,
+        },
+    }
+}
+
+// The ints of one whose pace is told.
+fn leaf<A: Arrays>(
+    e: &IntExpr<'_>,
+    names: &Names<'_>,
+    target: usize,
+    frame: &Frame<A>,
+    strip: &mut Strip,
+)
+    ensures row { strip.new.row ≡ strip.old.row }
+    ensures values { HoldsInTurns names.now target (λ u. value_of frame.now.limits in_memory (int_view e.now) None u) frame.now.memory strip.new }
+{
+    match pace_of(e, names, target, strip.row, frame) {
+        Some(told) => pace(strip, told),
+        None => strip.size = 0,
+    }
+}
+
+// The ints of an element.
+fn element<A: Arrays>(
+    slot: usize,
+    index: &IndexExpr<'_>,
+    names: &Names<'_>,
+    target: usize,
+    frame: &Frame<A>,
+    strip: &mut Strip,
+)
+    ensures row { strip.new.row ≡ strip.old.row }
+    ensures values { (at : Place) → HoldsInTurns names.now target (λ u. value_of frame.now.limits in_memory
+        (in_square (array_named IntKind slot at) (index_items index.now)) None u) frame.now.memory strip.new }
+{
+    match elements(slot, index, names, target, strip.row, frame) {
+        Some(words) => copy(strip, words),
+        None => strip.size = 0,
     }
 }
 
@@ -154,145 +192,134 @@ fn negatives<A: Arrays>(
     e: &IntExpr<'_>,
     names: &Names<'_>,
     target: usize,
-    row: Row,
     frame: &Frame<A>,
-) -> Strip
-    ensures row { result.row ≡ row }
+    strip: &mut Strip,
+)
+    ensures row { strip.new.row ≡ strip.old.row }
     ensures values { HoldsInTurns names.now target (λ u. value_of frame.now.limits in_memory
-        (Prefixed nowhere Minus (int_view e.now)) None u) frame.now.memory result }
+        (Prefixed nowhere Minus (int_view e.now)) None u) frame.now.memory strip.new }
 {
-    negated(&turn_strip(e, names, target, row, frame))
+    turn_ints(e, names, target, frame, strip);
+    negate(strip);
 }
 
-// Sums.
+// What an operator makes of two ints, of which the right one has a strip of its own.
 #[cycle(turns)]
 #[inline(never)]
-fn sums<A: Arrays>(
+fn of_two<A: Arrays>(
+    op: Wrapping,
     a: &IntExpr<'_>,
     b: &IntExpr<'_>,
     names: &Names<'_>,
     target: usize,
-    row: Row,
     frame: &Frame<A>,
-) -> Strip
-    ensures row { result.row ≡ row }
+    strip: &mut Strip,
+)
+    ensures row { strip.new.row ≡ strip.old.row }
     ensures values { HoldsInTurns names.now target (λ u. value_of frame.now.limits in_memory
-        (two (int_view a.now) nowhere Add (int_view b.now)) None u) frame.now.memory result }
+        (two (int_view a.now) nowhere (infix_of op) (int_view b.now)) None u) frame.now.memory strip.new }
 {
-    let left = turn_strip(a, names, target, row, frame);
-    match steady(b, names, target, row, frame) {
-        Some(n) => with_each(&left, n, sum),
-        None => both(&left, &turn_strip(b, names, target, row, frame), sum),
-    }
+    let mut right = Strip::none(strip.row);
+    turn_ints(a, names, target, frame, strip);
+    turn_ints(b, names, target, frame, &mut right);
+    let size = right.size.min(STRIP);
+    apply(op, strip, Right::Words(&right.words[..size]));
 }
 
-// Differences.
+// What an operator makes of two ints.
 #[cycle(turns)]
 #[inline(never)]
-fn differences<A: Arrays>(
+fn both<A: Arrays>(
+    op: Wrapping,
     a: &IntExpr<'_>,
     b: &IntExpr<'_>,
     names: &Names<'_>,
     target: usize,
-    row: Row,
     frame: &Frame<A>,
-) -> Strip
-    ensures row { result.row ≡ row }
+    strip: &mut Strip,
+)
+    ensures row { strip.new.row ≡ strip.old.row }
     ensures values { HoldsInTurns names.now target (λ u. value_of frame.now.limits in_memory
-        (two (int_view a.now) nowhere Subtract (int_view b.now)) None u) frame.now.memory result }
+        (two (int_view a.now) nowhere (infix_of op) (int_view b.now)) None u) frame.now.memory strip.new }
 {
-    let left = turn_strip(a, names, target, row, frame);
-    match steady(b, names, target, row, frame) {
-        Some(n) => with_each(&left, n, difference),
-        None => both(&left, &turn_strip(b, names, target, row, frame), difference),
-    }
-}
-
-// Products.
-#[cycle(turns)]
-#[inline(never)]
-fn products<A: Arrays>(
-    a: &IntExpr<'_>,
-    b: &IntExpr<'_>,
-    names: &Names<'_>,
-    target: usize,
-    row: Row,
-    frame: &Frame<A>,
-) -> Strip
-    ensures row { result.row ≡ row }
-    ensures values { HoldsInTurns names.now target (λ u. value_of frame.now.limits in_memory
-        (two (int_view a.now) nowhere Multiply (int_view b.now)) None u) frame.now.memory result }
-{
-    let left = turn_strip(a, names, target, row, frame);
-    match steady(b, names, target, row, frame) {
-        Some(n) => with_each(&left, n, product),
-        None => both(&left, &turn_strip(b, names, target, row, frame), product),
-    }
+    let Some(right) = right_of(b, names, target, strip.row, frame) else {
+        of_two(op, a, b, names, target, frame, strip);
+        return;
+    };
+    turn_ints(a, names, target, frame, strip);
+    apply(op, strip, right);
 }
 
 // Quotients, by an int that is the same in all turns and isn't 0.
 #[cycle(turns)]
 #[inline(never)]
-fn divided<A: Arrays>(
+fn quotients<A: Arrays>(
     a: &IntExpr<'_>,
     b: &IntExpr<'_>,
     names: &Names<'_>,
     target: usize,
-    row: Row,
     frame: &Frame<A>,
-) -> Strip
-    ensures row { result.row ≡ row }
+    strip: &mut Strip,
+)
+    ensures row { strip.new.row ≡ strip.old.row }
     ensures values { (at : Place) → HoldsInTurns names.now target (λ u. value_of frame.now.limits in_memory
-        (two (int_view a.now) at Divide (int_view b.now)) None u) frame.now.memory result }
+        (two (int_view a.now) at Divide (int_view b.now)) None u) frame.now.memory strip.new }
 {
-    match steady(b, names, target, row, frame) {
-        Some(n) if n != 0 => quotients(&turn_strip(a, names, target, row, frame), n),
-        _ => Strip::none(row),
+    match steady(b, names, target, strip.row, frame) {
+        Some(n) if n != 0 => {
+            turn_ints(a, names, target, frame, strip);
+            divide(strip, n);
+        }
+        _ => strip.size = 0,
     }
 }
 
 // Remainders, by such an int.
 #[cycle(turns)]
 #[inline(never)]
-fn left_over<A: Arrays>(
+fn remainders<A: Arrays>(
     a: &IntExpr<'_>,
     b: &IntExpr<'_>,
     names: &Names<'_>,
     target: usize,
-    row: Row,
     frame: &Frame<A>,
-) -> Strip
-    ensures row { result.row ≡ row }
+    strip: &mut Strip,
+)
+    ensures row { strip.new.row ≡ strip.old.row }
     ensures values { (at : Place) → HoldsInTurns names.now target (λ u. value_of frame.now.limits in_memory
-        (two (int_view a.now) at Remainder (int_view b.now)) None u) frame.now.memory result }
+        (two (int_view a.now) at Remainder (int_view b.now)) None u) frame.now.memory strip.new }
 {
-    match steady(b, names, target, row, frame) {
-        Some(n) if n != 0 => remainders(&turn_strip(a, names, target, row, frame), n),
-        _ => Strip::none(row),
+    match steady(b, names, target, strip.row, frame) {
+        Some(n) if n != 0 => {
+            turn_ints(a, names, target, frame, strip);
+            leave(strip, n);
+        }
+        _ => strip.size = 0,
     }
 }
 
-/// The ints of an expression in the turns of a row's indices, as far as they are found at once. There may be none. The turns may write the word or the array in one slot, which is not read here.
+/// Makes a strip the ints of an expression in the turns of its row's indices, as far as they are found at once. There may be none. The turns
+/// may write the word or the array in one slot, which is not read here.
 #[cycle(turns)]
-pub fn turn_strip<A: Arrays>(
+pub fn turn_ints<A: Arrays>(
     e: &IntExpr<'_>,
     names: &Names<'_>,
     target: usize,
-    row: Row,
     frame: &Frame<A>,
-) -> Strip
-    ensures row { result.row ≡ row }
-    ensures values { HoldsInTurns names.now target (λ u. value_of frame.now.limits in_memory (int_view e.now) None u) frame.now.memory result }
+    strip: &mut Strip,
+)
+    ensures row { strip.new.row ≡ strip.old.row }
+    ensures values { HoldsInTurns names.now target (λ u. value_of frame.now.limits in_memory (int_view e.now) None u) frame.now.memory strip.new }
 {
     match e {
-        IntExpr::Number(_) | IntExpr::Local(_) => of_leaf(e, names, target, row, frame),
-        IntExpr::Element(slot, index, _) => of_element(*slot, index, names, target, row, frame),
-        IntExpr::Negative(e) => negatives(e, names, target, row, frame),
-        IntExpr::Sum(a, b) => sums(a, b, names, target, row, frame),
-        IntExpr::Difference(a, b) => differences(a, b, names, target, row, frame),
-        IntExpr::Product(a, b) => products(a, b, names, target, row, frame),
-        IntExpr::Quotient(a, b, _) => divided(a, b, names, target, row, frame),
-        IntExpr::Remainder(a, b, _) => left_over(a, b, names, target, row, frame),
-        _ => Strip::none(row),
+        IntExpr::Number(_) | IntExpr::Local(_) => leaf(e, names, target, frame, strip),
+        IntExpr::Element(slot, index, _) => element(*slot, index, names, target, frame, strip),
+        IntExpr::Negative(e) => negatives(e, names, target, frame, strip),
+        IntExpr::Sum(a, b) => both(Wrapping::Sum, a, b, names, target, frame, strip),
+        IntExpr::Difference(a, b) => both(Wrapping::Difference, a, b, names, target, frame, strip),
+        IntExpr::Product(a, b) => both(Wrapping::Product, a, b, names, target, frame, strip),
+        IntExpr::Quotient(a, b, _) => quotients(a, b, names, target, frame, strip),
+        IntExpr::Remainder(a, b, _) => remainders(a, b, names, target, frame, strip),
+        _ => strip.size = 0,
     }
 }

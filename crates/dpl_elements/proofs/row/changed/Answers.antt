@@ -14,13 +14,14 @@ loop-k-preserved g c =
     let k = c.loop-k.k in
     let op = c.args.op in
     let old = c.run-old.result.now in
-    let strip = c.args.strip.words in
-    let words = c.loop-k.words in
+    let strip = c.args.strip.now.words in
+    let words = c.loop-k.strip.words in
     let old_fits : FitsSigned w64 (get_or old k (pos 0)) = search rules in
     let word_fits : FitsSigned w64 (get_or words k (pos 0)) = search rules in
     let made_fits : FitsSigned w64 c.assigned.result = search rules in
     let makes = simp to_z-of_z at c.assigned.ensures in
     record {
+      size = c.loop-k.invariant.size;
       long = length-set words k _ ∙ c.loop-k.invariant.long;
       made = written (λ j w. assigned op None (Int (get_or old j (pos 0))) (Int (get_or strip j (pos 0))) ≡ Int w) words k _ (search rules) c.loop-k.invariant.made
           (ap (λ n. assigned op None (Int (get_or old k (pos 0))) (Int n)) (sym (c.loop-k.invariant.left k (omega arith))) ∙ sym makes ∙ ap Int (sym (to_z-of_z w64 c.assigned.result made_fits)));
@@ -34,4 +35,4 @@ returns-clause-words g c k old below cap at =
     let before : k < c.loop-k.k = search rules in
     let there = c.run-old.ensures k (get_or run k (pos 0)) (slice_get-get_or run k (pos 0) within) in
     let same : old ≡ get_or run k (pos 0) = same_Some old (get_or run k (pos 0)) (sym at ∙ there) in
-    ap (λ n. assigned c.args.op None (Int n) (Int (get_or c.args.strip.words k (pos 0)))) same ∙ c.loop-k.invariant.made k before
+    ap (λ n. assigned c.args.op None (Int n) (Int (get_or c.args.strip.now.words k (pos 0)))) same ∙ c.loop-k.invariant.made k before

@@ -33,7 +33,7 @@ returns-then-made-gt0-clause-done g c =
     let first = c.args.row in
     let slot = c.args.slot in
     let fold = c.in-Some.fold in
-    let strip = c.turn_strip-strip.result in
+    let strip = c.turn_ints.new.strip in
     let made = c.min-made.result in
     let last : ℕ = made - 1 in
     let some : made ≡ suc last = omega (arith, c.if-made-gt0.true) in
@@ -53,7 +53,7 @@ returns-then-made-gt0-clause-done g c =
     let turn = index_turn f.limits names (Then (int_changed c.args.deed.now slot (One (int_view c.args.e.now))) NoStmts) in
     subst (λ (m : Memory). AreDone turn first made f.memory m) (sym memory)
     (row-folded f.limits names c.args.deed.now slot c.args.e.now fold first strip made f.memory (c.is_variable.ensures c.if-is_variable.false) there folds
-    c.turn_strip-strip.ensures.row few cap c.turn_strip-strip.ensures.values last some)
+    (c.turn_ints.ensures.row ∙ c.none-strip.ensures.row) few cap c.turn_ints.ensures.values last some)
 
 pub returns-else-made-gt0-clause-done : goal.returns-else-made-gt0-clause-done
 returns-else-made-gt0-clause-done g c =

@@ -1,43 +1,39 @@
--- The values of sums, differences and products are those of both sides put together.
+-- What an operator makes of both sides is the whole's value.
 -- These are the answers to the goals of the functions of operators in turns.
-use Rattle.std.proofs.Common.{◌+ℤ◌, ◌-ℤ◌, ◌*ℤ◌, None, sym, ◌∙◌}
-use Rattle.dpl_language.specs.Arithmetic.{wrap}
+use Rattle.std.proofs.Common.{None, subst, sym, ◌∙◌, rules}
 use Rattle.dpl_language.specs.Values.{Index}
-use Rattle.dpl_language.specs.Tree.{ExprTree, Add, Subtract, Multiply}
+use Rattle.dpl_language.specs.Tree.{ExprTree}
 use Rattle.dpl_language.specs.Expressions.{value_of}
 use Rattle.dpl_lowered.specs.Shapes.{nowhere, two}
 use Rattle.dpl_memory.specs.Memory.{Variable, Memory, in_memory}
 use Rattle.dpl_nodes.specs.Typed.{int_view}
-use Rattle.dpl_strips.specs.Strips.{IsInTurn}
-use Rattle.dpl_strips.proofs.Strips.{both-hold, sum-at, difference-at, product-at}
+use Rattle.dpl_strips.specs.Strips.{IsInTurn, RightHolds, infix_of, right_size, right_word}
+use Rattle.dpl_strips.proofs.Strips.{both-hold, both-at, first-hold}
 use Rattle.dpl_strips.proofs.turn_strips.+turns.Goals as goal
 
-pub differences-returns-in-None-clause-values : goal.differences-returns-in-None-clause-values
-differences-returns-in-None-clause-values g t c =
+pub both-returns-clause-values : goal.both-returns-clause-values
+both-returns-clause-values g t c =
     let frame = c.args.frame.now in
     let a = int_view c.args.a.now in
     let b = int_view c.args.b.now in
+    let right = c.in-Some.right in
+    let Suits = λ (i : Index) (u : Memory). IsInTurn c.args.names.now c.args.target i frame.memory u in
     let at = λ (e : ExprTree Variable) (i : Index) (u : Memory). value_of frame.limits in_memory e None u in
-    both-hold (λ i u. IsInTurn c.args.names.now c.args.target i frame.memory u) (at a) (at b) (at (two a nowhere Subtract b)) (λ x y. wrap (x -ℤ y)) (λ i u x y left right. difference-at frame.limits a b None u x y left right)
-    c.turn_strip-left.result c.turn_strip.result c.both.result (c.turn_strip.ensures.row ∙ sym c.turn_strip-left.ensures.row) c.both.ensures.row c.both.ensures.left c.both.ensures.right
-    c.turn_strip-left.ensures.values c.turn_strip.ensures.values c.both.ensures.words
+    both-hold Suits (at a) (at b) (at (two a nowhere (infix_of c.args.op) b)) c.args.op (λ i u x y left right. both-at frame.limits a b None u x y left right c.args.op)
+    c.turn_ints.new.strip c.apply.new.strip (right_size right) (right_word right) c.apply.ensures.row c.apply.ensures.left c.apply.ensures.right c.turn_ints.ensures.values
+    (subst (λ row. RightHolds Suits (at b) row right) (sym c.turn_ints.ensures.row) c.in-Some.ensures) c.apply.ensures.words
 
-pub products-returns-in-None-clause-values : goal.products-returns-in-None-clause-values
-products-returns-in-None-clause-values g t c =
+pub of_two-returns-clause-values : goal.of_two-returns-clause-values
+of_two-returns-clause-values g t c =
     let frame = c.args.frame.now in
     let a = int_view c.args.a.now in
     let b = int_view c.args.b.now in
+    let right = c.turn_ints-2.new.strip in
+    let size = c.min-size.result in
+    let Suits = λ (i : Index) (u : Memory). IsInTurn c.args.names.now c.args.target i frame.memory u in
     let at = λ (e : ExprTree Variable) (i : Index) (u : Memory). value_of frame.limits in_memory e None u in
-    both-hold (λ i u. IsInTurn c.args.names.now c.args.target i frame.memory u) (at a) (at b) (at (two a nowhere Multiply b)) (λ x y. wrap (x *ℤ y)) (λ i u x y left right. product-at frame.limits a b None u x y left right)
-    c.turn_strip-left.result c.turn_strip.result c.both.result (c.turn_strip.ensures.row ∙ sym c.turn_strip-left.ensures.row) c.both.ensures.row c.both.ensures.left c.both.ensures.right
-    c.turn_strip-left.ensures.values c.turn_strip.ensures.values c.both.ensures.words
-
-pub sums-returns-in-None-clause-values : goal.sums-returns-in-None-clause-values
-sums-returns-in-None-clause-values g t c =
-    let frame = c.args.frame.now in
-    let a = int_view c.args.a.now in
-    let b = int_view c.args.b.now in
-    let at = λ (e : ExprTree Variable) (i : Index) (u : Memory). value_of frame.limits in_memory e None u in
-    both-hold (λ i u. IsInTurn c.args.names.now c.args.target i frame.memory u) (at a) (at b) (at (two a nowhere Add b)) (λ x y. wrap (x +ℤ y)) (λ i u x y left right. sum-at frame.limits a b None u x y left right)
-    c.turn_strip-left.result c.turn_strip.result c.both.result (c.turn_strip.ensures.row ∙ sym c.turn_strip-left.ensures.row) c.both.ensures.row c.both.ensures.left c.both.ensures.right
-    c.turn_strip-left.ensures.values c.turn_strip.ensures.values c.both.ensures.words
+    both-hold Suits (at a) (at b) (at (two a nowhere (infix_of c.args.op) b)) c.args.op (λ i u x y left right. both-at frame.limits a b None u x y left right c.args.op)
+    c.turn_ints.new.strip c.apply.new.strip _ _ c.apply.ensures.row c.apply.ensures.left c.apply.ensures.right c.turn_ints.ensures.values
+    (first-hold Suits (at b) c.turn_ints.new.strip.row right size (c.turn_ints-2.ensures.row ∙ c.none-right.ensures.row ∙ sym c.turn_ints.ensures.row)
+    (search rules) c.turn_ints-2.ensures.values)
+    c.apply.ensures.words

@@ -25,4 +25,4 @@ returns-clause-done g c =
     let turn = λ (t : Index). change f.limits in_memory (array_leaf IntKind turns.name.now) sign t (Int turns.value) in
     subst (λ (m : Memory). AreDone turn first c.put_row.result f.memory m) (sym (ap (λ (f : Framed). f.memory) put.1))
     (whole-row f.limits turns.name.now sign turn first _ c.put_row.result f.memory put.0 put.2
-    (λ k below u same done. ap (λ n. change f.limits in_memory (array_leaf IntKind turns.name.now) sign (behind k first) (Int n) u done) (sym (c.repeated-strip.ensures.words k (omega (arith, below, c.put_row.ensures.cap)) ∙ to_z-of_z w64 turns.value fits))))
+    (λ k below u same done. ap (λ n. change f.limits in_memory (array_leaf IntKind turns.name.now) sign (behind k first) (Int n) u done) (sym (c.repeat.ensures.words k (omega (arith, below, c.put_row.ensures.cap)) ∙ to_z-of_z w64 turns.value fits))))

@@ -23,7 +23,7 @@ returns-clause-done g c =
     let turns = c.args.self.now in
     let f = c.args.frame.now in
     let first = c.args.row in
-    let strip = c.promoted_strip-strip.result in
+    let strip = c.promoted_ints.new.strip in
     let put = c.put_row.ensures.put in
     let sign = signed turns.op turns.sign.now in
     let changes = change f.limits in_memory (array_leaf IntKind turns.name.now) sign in
@@ -31,7 +31,7 @@ returns-clause-done g c =
     subst (λ (m : Memory). AreDone turn first c.put_row.result f.memory m) (sym (ap (λ (f : Framed). f.memory) put.1))
     (whole-row f.limits turns.name.now sign turn first strip c.put_row.result f.memory put.0 put.2
     (λ k below u same done.
-    let at = ap (behind k) (sym c.promoted_strip-strip.ensures.row) in
+    let at = ap (behind k) (sym (c.promoted_ints.ensures.row ∙ c.none-strip.ensures.row)) in
     ap (λ r. with_value r (changes (behind k first)) u done)
     (ap (λ t. value_of f.limits in_memory (promoted_int EachTurn turns.e.now) (Some t) u) at
-    ∙ c.promoted_strip-strip.ensures.values k (omega (arith, below, c.put_row.ensures.strip)) (omega (arith, below, c.put_row.ensures.cap)) u (subst (λ t. IsSameAt t f.memory u) at same))))
+    ∙ c.promoted_ints.ensures.values k (omega (arith, below, c.put_row.ensures.strip)) (omega (arith, below, c.put_row.ensures.cap)) u (subst (λ t. IsSameAt t f.memory u) at same))))

@@ -1,19 +1,21 @@
 -- One word more is copied; the words that are copied stand there.
--- These are the answers to the goals of `copied`.
+-- These are the answers to the goals of `copy`.
 use Rattle.std.proofs.Common.{◌≡◌, ◌<◌, Some, length, get_or, pos, sym, ap, ◌∙◌, FitsSigned, w64, rules, length-set}
 use Rattle.std.proofs.lemmas.Int.{to_z-of_z}
 use Rattle.std.proofs.lemmas.Option.{slice_get-get_or}
 use Rattle.dpl_strips.proofs.Strips.{written}
-use Rattle.dpl_strips.proofs.strip.copied.Goals as goal
+use Rattle.dpl_strips.proofs.apply.copy.Goals as goal
 
 pub loop-k-preserved : goal.loop-k-preserved
 loop-k-preserved c =
     let k = c.loop-k.k in
     let words = c.args.words.now in
+    let made = c.loop-k.strip.words in
     let fits : FitsSigned w64 (get_or words k (pos 0)) = search rules in
     record {
-      long = length-set c.loop-k.copies k _ ∙ c.loop-k.invariant.long;
-      copied = written (λ j w. w ≡ get_or words j (pos 0)) c.loop-k.copies k _ (search rules) c.loop-k.invariant.copied (to_z-of_z w64 (get_or words k (pos 0)) fits);
+      row = c.loop-k.invariant.row;
+      long = length-set made k _ ∙ c.loop-k.invariant.long;
+      copied = written (λ j w. w ≡ get_or words j (pos 0)) made k _ (search rules) c.loop-k.invariant.copied (to_z-of_z w64 (get_or words k (pos 0)) fits);
     }
 
 pub returns-clause-words : goal.returns-clause-words

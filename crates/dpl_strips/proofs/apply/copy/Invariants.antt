@@ -1,0 +1,10 @@
+use Rattle.std.proofs.Common.{◌≡◌, ◌<◌, ℕ, pos, length, get_or}
+use Rattle.dpl_strips.proofs.apply.copy.Given as goal
+
+-- the words in front are copied
+abbrev pub invariant-loop-k : goal.invariant-loop-k
+invariant-loop-k l = record {
+  row : l.strip.row ≡ l.initial.strip.row;
+  long : length l.strip.words ≡ 64;
+  copied : (j : ℕ) → j < l.k → get_or l.strip.words j (pos 0) ≡ get_or l.words j (pos 0);
+}
