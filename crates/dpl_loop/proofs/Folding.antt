@@ -7,13 +7,15 @@ use Rattle.dpl_language.specs.Arithmetic.{combined, unit_of}
 use Rattle.dpl_language.specs.Outcome.{with_ok}
 use Rattle.dpl_sets.specs.TextRanges.{TextRange}
 use Rattle.dpl_sets.specs.Ranges.{RangeValue}
-use Rattle.dpl_sets.specs.Indices.{indices}
+use Rattle.dpl_map.specs.Maps.{AxisValue}
 use Rattle.dpl_language.specs.Ranges.{indices_in}
 use Rattle.dpl_language.specs.Expressions.{folded, fold_over}
 use Rattle.dpl_frame.specs.declared.fault.Turn.{Turn}
 use Rattle.dpl_frame.specs.Faults.{Halt, Faulted, Refused, OutOfMemory, Tells}
 use Rattle.dpl_apart.specs.Operands.{IsOperand}
 use Rattle.dpl_loop.specs.declared.ended.Ended.{Ended}
+use Rattle.dpl_loop.specs.declared.parts.Part.{Part}
+use Rattle.dpl_loop.specs.Parts.{indices_of}
 use Rattle.dpl_loop.specs.Folds.{in_turns, OperandThen, AreOperands, FoldHalts, FoldEnds}
 use Rattle.dpl_loop.specs.Values.{FoldsTell, MayEndRefused}
 
@@ -72,13 +74,13 @@ fold-tells may more as_value op meaning ts over turn r go same ends = by r (subs
   by (Err OutOfMemory) ends = tt
 
 -- a fold of a part, by an answer that is told of it
-pub told-or-refused : (value : ℤ → Value) (op : Op) (meaning : Index → Result Value Fault) (answers : List RangeValue → Ended → Type 0) → FoldsTell value op meaning answers
-    → (part : List RangeValue) (e : Ended) → answers part e → FoldEnds (MayEndRefused answers) value op (in_turns meaning) (indices part) e.turn e.item
-told-or-refused value op meaning answers tell part e answer = by e.item refl (tell part e answer) where
-  by : (r : Result ℤ Halt) → e.item ≡ r → FoldEnds (Unit {0}) value op (in_turns meaning) (indices part) e.turn r → FoldEnds (MayEndRefused answers) value op (in_turns meaning) (indices part) e.turn r
+pub told-or-refused : (value : ℤ → Value) (op : Op) (meaning : Index → Result Value Fault) (whole : List RangeValue) (axes : List AxisValue) (answers : Part → ℕ → Ended → Type 0) → FoldsTell value op meaning whole axes answers
+    → (p : Part) (l : ℕ) (e : Ended) → answers p l e → FoldEnds (MayEndRefused answers) value op (in_turns meaning) (indices_of p whole axes l) e.turn e.item
+told-or-refused value op meaning whole axes answers tell p l e answer = by e.item refl (tell p l e answer) where
+  by : (r : Result ℤ Halt) → e.item ≡ r → FoldEnds (Unit {0}) value op (in_turns meaning) (indices_of p whole axes l) e.turn r → FoldEnds (MayEndRefused answers) value op (in_turns meaning) (indices_of p whole axes l) e.turn r
   by (Ok a) is ends = ends
   by (Err (Faulted f)) is ends = ends
-  by (Err Refused) is ends = (part, e, answer, is)
+  by (Err Refused) is ends = (p, l, e, answer, is)
   by (Err OutOfMemory) is ends = tt
 
 -- where more may be refused
@@ -90,10 +92,10 @@ ends-weaker may more as_value op value ts turn (Err Refused) go ends = go ends
 ends-weaker may more as_value op value ts turn (Err OutOfMemory) go ends = tt
 
 -- what parts come to together is the reduction; where an answer for one is a refusal, that may be
-pub parts-tell : (may more : Type 0) (value : ℤ → Value) (op : Op) (meaning : Index → Result Value Fault) (answers : List RangeValue → Ended → Type 0) (ts : List Index) (over : List TextRange) (turn : Turn) (r : Result ℤ Halt)
+pub parts-tell : (may more : Type 0) (value : ℤ → Value) (op : Op) (meaning : Index → Result Value Fault) (whole : List RangeValue) (axes : List AxisValue) (answers : Part → ℕ → Ended → Type 0) (ts : List Index) (over : List TextRange) (turn : Turn) (r : Result ℤ Halt)
     → (may → more) → ts ≡ indices_in over → Tells (MayEndRefused answers) value turn r (folded op (in_turns meaning) ts (unit_of op))
-    → ((part : List RangeValue) (e : Ended) → answers part e → FoldEnds may value op (in_turns meaning) (indices part) e.turn e.item) → Tells more value turn r (fold_over op meaning over)
-parts-tell may more value op meaning answers ts over turn r go same tells each =
+    → ((p : Part) (l : ℕ) (e : Ended) → answers p l e → FoldEnds may value op (in_turns meaning) (indices_of p whole axes l) e.turn e.item) → Tells more value turn r (fold_over op meaning over)
+parts-tell may more value op meaning whole axes answers ts over turn r go same tells each =
     tells-as _ value turn more r (folded op (in_turns meaning) ts (unit_of op)) (fold_over op meaning over)
-    (λ refused. go (subst (λ r. FoldEnds may value op (in_turns meaning) (indices refused.0) refused.1.turn r) refused.3 (each refused.0 refused.1 refused.2)))
+    (λ refused. go (subst (λ r. FoldEnds may value op (in_turns meaning) (indices_of refused.0 whole axes refused.1) refused.2.turn r) refused.4 (each refused.0 refused.1 refused.2 refused.3)))
     (ap (λ ts. folded op (in_turns meaning) ts (unit_of op)) (sym same)) tells

@@ -65,10 +65,10 @@ module _ (op : Op) (meaning : Index → Result Value Fault) (whole : List RangeV
       failed.1 ∙ ap (λ k. Failed k (in_the_turn (turn_view turn) f)) spot
 
   -- what a worker tells of a part, by the part of the whole domain
-  pub part-ends : {A : Type 0} → (may : Type 0) (as_value : A → Value) (l : ℕ) (d : List RangeValue) (turn : Turn) (r : Result A Halt) → indices d ≡ part whole axes l
-      → FoldEnds may as_value op (in_turns meaning) (indices d) turn r
+  pub part-ends : {A : Type 0} → (may : Type 0) (as_value : A → Value) (l : ℕ) (ts : List Index) (turn : Turn) (r : Result A Halt) → ts ≡ part whole axes l
+      → FoldEnds may as_value op (in_turns meaning) ts turn r
       → PartsEnd may as_value (indices whole) (part_ran op (in_turns meaning) whole axes l) (AreOperands op (in_turns meaning) (part whole axes l)) turn r
-  part-ends may as_value l d turn r is ends = by r (subst (λ ts. FoldEnds may as_value op (in_turns meaning) ts turn r) is ends) where
+  part-ends may as_value l ts turn r is ends = by r (subst (λ ts. FoldEnds may as_value op (in_turns meaning) ts turn r) is ends) where
     ran : (v : Result Value Fault) → folded op (in_turns meaning) (part whole axes l) (unit_of op) ≡ v → fold_of (part_ran op (in_turns meaning) whole axes l) ≡ v
     ran v e = sym (folded-run op (in_turns meaning) (place_in (indices whole)) (part whole axes l) (unit_of op)) ∙ e
 

@@ -37,6 +37,7 @@ use Rattle.dpl_loop.specs.declared.job.Worked.{Worked}
 use Rattle.dpl_loop.specs.declared.taken.Taken.{Taken}
 use Rattle.dpl_loop.specs.Runs.{RunsTo}
 use Rattle.dpl_loop.specs.Workers.{HasWorked, HaveDone}
+use Rattle.dpl_loop.specs.Parts.{indices_of}
 use Rattle.dpl_loop.specs.Parts.{IsJob}
 use Rattle.dpl_loop.specs.Formed.{IsWhole}
 use Rattle.dpl_loop.specs.declared.plan.Plan.{Plan}
@@ -83,7 +84,7 @@ module _ (may : Type 0) (h : Changes) (turn : Index → Run Memory) (whole : Lis
   afters-locales (w ∷ ws) all = ap (λ ls. w.locale ∷ ls) (afters-locales ws all.1)
 
   -- ---- jobs that are done
-  pub done-made : (f : Framed) (limits : Limits → Index → Run Memory) → named_turn turn ≡ limits f.limits → (js : List Job) (ws : List Worked) → AllByRecursion (IsJob h whole axes m f) js → HaveDone may limits js ws
+  pub done-made : (f : Framed) (limits : Limits → Index → Run Memory) → named_turn turn ≡ limits f.limits → (js : List Job) (ws : List Worked) → AllByRecursion (IsJob h whole axes m f) js → HaveDone may limits whole axes js ws
       → (map (λ (j : Job). j.locale) js ≡ locales ws) × AllByRecursion HasMade ws
   done-made f limits same [] [] jobs done = (refl, tt)
   done-made f limits same [] (w ∷ ws) jobs done = absurd done
@@ -94,7 +95,7 @@ module _ (may : Type 0) (h : Changes) (turn : Index → Run Memory) (whole : Lis
       let began = jobs.0.frame in
       let its : HasWorked may (limits f.limits) (part whole axes j.locale) (worker_memory h (owner axes) j.locale m) w =
       subst (λ ts. HasWorked may (limits f.limits) ts (worker_memory h (owner axes) j.locale m) w) jobs.0.part
-      (subst (λ (g : Framed). HasWorked may (limits g.limits) (indices j.part.now) g.memory w) began done.0.1) in (
+      (subst (λ (g : Framed). HasWorked may (limits g.limits) (indices_of j.part.now whole axes j.locale) g.memory w) began done.0.1) in (
         (λ i. sym here i ∷ rest.0 i),
         (
           subst (λ l. HasWorked may (named_turn turn) (part whole axes l) (worker_memory h (owner axes) l m) w) (sym here)
@@ -277,18 +278,18 @@ module _ (may : Type 0) (h : Changes) (turn : Index → Run Memory) (whole : Lis
         subst (λ e. RunsTo may e its.after no_deeds (in_order (named_turn turn) (part whole axes soonest.0.1.locale) (worker_memory h (owner axes) soonest.0.1.locale m) no_deeds)) soonest.0.3 (its.ends no_deeds)
 
 -- ---- what the calls of a forall say, put together
-done-locales : (may : Type 0) (turn : Limits → Index → Run Memory) (js : List Job) (ws : List Worked) → HaveDone may turn js ws → map (λ (j : Job). j.locale) js ≡ locales ws
-done-locales may turn [] [] done = refl
-done-locales may turn [] (w ∷ ws) done = absurd done
-done-locales may turn (j ∷ js) [] done = absurd done
-done-locales may turn (j ∷ js) (w ∷ ws) done = let rest = done-locales may turn js ws done.1 in (λ i. sym done.0.0 i ∷ rest i)
+done-locales : (may : Type 0) (turn : Limits → Index → Run Memory) (whole : List RangeValue) (axes : List AxisValue) (js : List Job) (ws : List Worked) → HaveDone may turn whole axes js ws → map (λ (j : Job). j.locale) js ≡ locales ws
+done-locales may turn whole axes [] [] done = refl
+done-locales may turn whole axes [] (w ∷ ws) done = absurd done
+done-locales may turn whole axes (j ∷ js) [] done = absurd done
+done-locales may turn whole axes (j ∷ js) (w ∷ ws) done = let rest = done-locales may turn whole axes js ws done.1 in (λ i. sym done.0.0 i ∷ rest i)
 
-pub done-lacking : (may : Type 0) (turn : Limits → Index → Run Memory) (js : List Job) (ws : List Worked) (before after : List Taken) → HaveDone may turn js ws
+pub done-lacking : (may : Type 0) (turn : Limits → Index → Run Memory) (whole : List RangeValue) (axes : List AxisValue) (js : List Job) (ws : List Worked) (before after : List Taken) → HaveDone may turn whole axes js ws
     → after ≡ map (lacking (map (λ (j : Job). j.locale) js)) before → after ≡ map (lacking (locales ws)) before
-done-lacking may turn js ws before after done lacks = lacks ∙ ap (λ ls. map (lacking ls) before) (done-locales may turn js ws done)
+done-lacking may turn whole axes js ws before after done lacks = lacks ∙ ap (λ ls. map (lacking ls) before) (done-locales may turn whole axes js ws done)
 
 pub made-from : (may : Type 0) (turn : Limits → Index → Run Memory) (h : Changes) (whole : List RangeValue) (axes : List AxisValue) (n : ℕ) (m : Memory) (f : Framed) (js : List Job) (ws : List Worked)
-    → AllByRecursion (IsJob h whole axes m f) js → HaveWorkers (part whole axes) n (map (λ (j : Job). j.locale) js) → HaveDone may (λ limits. named_turn (turn limits)) js ws
+    → AllByRecursion (IsJob h whole axes m f) js → HaveWorkers (part whole axes) n (map (λ (j : Job). j.locale) js) → HaveDone may (λ limits. named_turn (turn limits)) whole axes js ws
     → HaveMade may (named_turn (turn f.limits)) h whole axes n m ws
 made-from may turn h whole axes n m f js ws jobs workers done =
     let its = done-made may h (turn f.limits) whole axes m f (λ limits. named_turn (turn limits)) refl js ws jobs done in

@@ -16,10 +16,11 @@ use Rattle.dpl_frame.specs.declared.share.Share.TheVariants.{Lent}
 use Rattle.dpl_frame.specs.Shares.{share_in, own_before}
 use Rattle.dpl_frame.proofs.OwnShares.{own_shares}
 use Rattle.dpl_loop.specs.declared.job.Job.{Job}
+use Rattle.dpl_loop.specs.declared.parts.Part.{Part}
 use Rattle.dpl_loop.specs.declared.taken.Taken.{Taken}
 use Rattle.dpl_loop.specs.Formed.{begun_with, with_units}
 use Rattle.dpl_loop.specs.Taken.{emptied, taken_from, AreTaken, AreThere, share_of, lacking}
-use Rattle.dpl_loop.specs.Parts.{IsSolePart, AreSoleParts, IsJob, IsBegun, part_in}
+use Rattle.dpl_loop.specs.Parts.{IsPart, AreParts, IsJob, IsBegun, part_in}
 use Rattle.dpl_loop.proofs.TakenApart.{emptied-arrays, emptied-length, emptied-other, there-before, share-before, taken-share, lent-share}
 
 -- WHAT A WORKER BEGINS WITH
@@ -69,8 +70,8 @@ pub longer : {X : Type 0} (xs : List X) (x : X) → length (xs ++ x ∷ []) ≡ 
 longer [] x = omega arith
 longer (y ∷ xs) x = let rest = longer xs x in omega (arith, rest)
 
-module _ (ps : List (ℕ × Op)) (parts : List (Option (List RangeValue))) (ts : List Taken) (f : Framed) where
-  begun-still : (p : Option (List RangeValue)) (j : Job) → IsBegun ps parts ts f j → IsBegun ps (parts ++ p ∷ []) ts f j
+module _ (ps : List (ℕ × Op)) (parts : List (Option Part)) (ts : List Taken) (f : Framed) where
+  begun-still : (p : Option Part) (j : Job) → IsBegun ps parts ts f j → IsBegun ps (parts ++ p ∷ []) ts f j
   begun-still p j begun = record {
     below = let more = longer parts p in let below = begun.below in omega (arith, more, below);
     part = get_or-first parts p j.locale None begun.below ∙ begun.part;
@@ -80,12 +81,12 @@ module _ (ps : List (ℕ × Op)) (parts : List (Option (List RangeValue))) (ts :
     frame = begun.frame;
   }
 
-  pub all-still : (p : Option (List RangeValue)) (js : List Job) → AllByRecursion (IsBegun ps parts ts f) js → AllByRecursion (IsBegun ps (parts ++ p ∷ []) ts f) js
+  pub all-still : (p : Option Part) (js : List Job) → AllByRecursion (IsBegun ps parts ts f) js → AllByRecursion (IsBegun ps (parts ++ p ∷ []) ts f) js
   all-still p [] all = tt
   all-still p (j ∷ js) all = (begun-still p j all.0, all-still p js all.1)
 
   -- and one more
-  pub begun-last : (d : List RangeValue) (j : Job) (ls : List ℕ) (own : List Share) (l : ℕ) (left : List Taken) → j.locale ≡ l → l ≡ length parts → j.part.now ≡ d → left ≡ map (lacking ls) ts
+  pub begun-last : (d : Part) (j : Job) (ls : List ℕ) (own : List Share) (l : ℕ) (left : List Taken) → j.locale ≡ l → l ≡ length parts → j.part.now ≡ d → left ≡ map (lacking ls) ts
       → ((slot : ℕ) → get_or own slot Lent ≡ share_of l slot left) → AreThere l left → j.frame ≡ with_memory (begun_with ps own f.memory) f → IsBegun ps (parts ++ Some d ∷ []) ts f j
   begun-last d j ls own l left here last is same shares there frame =
       let is_there : AreThere j.locale (map (lacking ls) ts) = subst (λ l. AreThere l (map (lacking ls) ts)) (sym here) (subst (AreThere l) same there) in
@@ -116,35 +117,35 @@ workers-same f g n ls same have = record {
   there = λ l less some. have.there l less (λ none. some (sym (same l less) ∙ none));
 }
 
-abbrev pub indices_of : List (Option (List RangeValue)) → ℕ → List Index
-indices_of parts l = part_in (get_or parts l None)
+abbrev pub indices_at : List RangeValue → List AxisValue → List (Option Part) → ℕ → List Index
+indices_at whole axes parts l = part_in whole axes l (get_or parts l None)
 
-module _ (parts : List (Option (List RangeValue))) (p : Option (List RangeValue)) (ls : List ℕ) (have : HaveWorkers (indices_of parts) (length parts) ls) where
-  have-still : HaveWorkers (indices_of (parts ++ p ∷ [])) (length parts) ls
-  have-still = workers-same (indices_of parts) (indices_of (parts ++ p ∷ [])) (length parts) ls (λ l less. ap part_in (sym (get_or-first parts p l None less))) have
+module _ (whole : List RangeValue) (axes : List AxisValue) (parts : List (Option Part)) (p : Option Part) (ls : List ℕ) (have : HaveWorkers (indices_at whole axes parts) (length parts) ls) where
+  have-still : HaveWorkers (indices_at whole axes (parts ++ p ∷ [])) (length parts) ls
+  have-still = workers-same (indices_at whole axes parts) (indices_at whole axes (parts ++ p ∷ [])) (length parts) ls (λ l less. ap (part_in whole axes l) (sym (get_or-first parts p l None less))) have
 
-  pub have-skip : p ≡ None → HaveWorkers (indices_of (parts ++ p ∷ [])) (length (parts ++ p ∷ [])) ls
+  pub have-skip : p ≡ None → HaveWorkers (indices_at whole axes (parts ++ p ∷ [])) (length (parts ++ p ∷ [])) ls
   have-skip none =
-      subst (λ n. HaveWorkers (indices_of (parts ++ p ∷ [])) n ls) (sym (longer parts p))
-      (workers-skip (indices_of (parts ++ p ∷ [])) (length parts) ls have-still (ap part_in (get_or-last parts p None ∙ none)))
+      subst (λ n. HaveWorkers (indices_at whole axes (parts ++ p ∷ [])) n ls) (sym (longer parts p))
+      (workers-skip (indices_at whole axes (parts ++ p ∷ [])) (length parts) ls have-still (ap (part_in whole axes (length parts)) (get_or-last parts p None ∙ none)))
 
-  pub have-next : (l : ℕ) → l ≡ length parts → HaveWorkers (indices_of (parts ++ p ∷ [])) (length (parts ++ p ∷ [])) (ls ++ l ∷ [])
+  pub have-next : (l : ℕ) → l ≡ length parts → HaveWorkers (indices_at whole axes (parts ++ p ∷ [])) (length (parts ++ p ∷ [])) (ls ++ l ∷ [])
   have-next l last =
-      subst (λ n. HaveWorkers (indices_of (parts ++ p ∷ [])) n (ls ++ l ∷ [])) (sym (longer parts p))
-      (subst (λ l. HaveWorkers (indices_of (parts ++ p ∷ [])) (length parts + 1) (ls ++ l ∷ [])) (sym last) (workers-next (indices_of (parts ++ p ∷ [])) (length parts) ls have-still))
+      subst (λ n. HaveWorkers (indices_at whole axes (parts ++ p ∷ [])) n (ls ++ l ∷ [])) (sym (longer parts p))
+      (subst (λ l. HaveWorkers (indices_at whole axes (parts ++ p ∷ [])) (length parts + 1) (ls ++ l ∷ [])) (sym last) (workers-next (indices_at whole axes (parts ++ p ∷ [])) (length parts) ls have-still))
 
 -- OF A LOOP
-module _ (whole : List RangeValue) (axes : List AxisValue) (parts : List (Option (List RangeValue))) (sole : AreSoleParts whole axes parts) where
-  part-is : (ts : List Index) (p : Option (List RangeValue)) → IsSolePart ts p → part_in p ≡ ts
-  part-is ts None is = sym is
-  part-is ts (Some d) is = is
+module _ (whole : List RangeValue) (axes : List AxisValue) (parts : List (Option Part)) (are : AreParts whole axes parts) where
+  part-is : (l : ℕ) (p : Option Part) → IsPart whole axes l p → part_in whole axes l p ≡ part whole axes l
+  part-is l None is = sym is
+  part-is l (Some p) is = is
 
-  pub parts-have : (ls : List ℕ) → HaveWorkers (indices_of parts) (length parts) ls → HaveWorkers (part whole axes) (length parts) ls
-  parts-have ls have = workers-same (indices_of parts) (part whole axes) (length parts) ls (λ l less. part-is (part whole axes l) (get_or parts l None) (sole.each l less)) have
+  pub parts-have : (ls : List ℕ) → HaveWorkers (indices_at whole axes parts) (length parts) ls → HaveWorkers (part whole axes) (length parts) ls
+  parts-have ls have = workers-same (indices_at whole axes parts) (part whole axes) (length parts) ls (λ l less. part-is l (get_or parts l None) (are.each l less)) have
 
   pub begun-job : (h : Changes) (m : Memory) (ts : List Taken) (f : Framed) (j : Job) → AreTaken axes h.written m ts f.memory → IsBegun h.reduced parts ts f j → IsJob h whole axes m f j
   begun-job h m ts f j taken begun = record {
-    part = ap part_in (sym begun.part) ∙ part-is (part whole axes j.locale) (get_or parts j.locale None) (sole.each j.locale begun.below);
+    part = ap (part_in whole axes j.locale) (sym begun.part) ∙ part-is j.locale (get_or parts j.locale None) (are.each j.locale begun.below);
     frame =
         begun.frame
         ∙ ap (λ (e : Memory). with_memory (begun_with h.reduced begun.own e) f) taken.stays
@@ -156,14 +157,14 @@ module _ (whole : List RangeValue) (axes : List AxisValue) (parts : List (Option
   begun-jobs h m ts f [] taken all = tt
   begun-jobs h m ts f (j ∷ js) taken all = (begun-job h m ts f j taken all.0, begun-jobs h m ts f js taken all.1)
 
-pub jobs-begun : {V E : Type 0} (items : V → List Job) (r : Result V E) (h : Changes) (parts : List (Option (List RangeValue))) (ts : List Taken) (f : Framed)
+pub jobs-begun : {V E : Type 0} (items : V → List Job) (r : Result V E) (h : Changes) (parts : List (Option Part)) (ts : List Taken) (f : Framed)
     → IfOk r (λ js. AllByRecursion (IsBegun h.reduced parts ts f) (items js))
-    → IfOk r (λ js. (whole : List RangeValue) (axes : List AxisValue) (m : Memory) → AreSoleParts whole axes parts → AreTaken axes h.written m ts f.memory → AllByRecursion (IsJob h whole axes m f) (items js))
-jobs-begun items (Ok js) h parts ts f begun = λ whole axes m sole taken. begun-jobs whole axes parts sole h m ts f (items js) taken begun
+    → IfOk r (λ js. (whole : List RangeValue) (axes : List AxisValue) (m : Memory) → AreParts whole axes parts → AreTaken axes h.written m ts f.memory → AllByRecursion (IsJob h whole axes m f) (items js))
+jobs-begun items (Ok js) h parts ts f begun = λ whole axes m are taken. begun-jobs whole axes parts are h m ts f (items js) taken begun
 jobs-begun items (Err e) h parts ts f begun = tt
 
-pub jobs-have : {V E : Type 0} (items : V → List Job) (r : Result V E) (parts : List (Option (List RangeValue)))
-    → IfOk r (λ js. HaveWorkers (indices_of parts) (length parts) (map (λ (j : Job). j.locale) (items js)))
-    → IfOk r (λ js. (whole : List RangeValue) (axes : List AxisValue) → AreSoleParts whole axes parts → HaveWorkers (part whole axes) (length parts) (map (λ (j : Job). j.locale) (items js)))
-jobs-have items (Ok js) parts have = λ whole axes sole. parts-have whole axes parts sole (map (λ (j : Job). j.locale) (items js)) have
+pub jobs-have : {V E : Type 0} (items : V → List Job) (r : Result V E) (parts : List (Option Part))
+    → IfOk r (λ js. (whole : List RangeValue) (axes : List AxisValue) → HaveWorkers (indices_at whole axes parts) (length parts) (map (λ (j : Job). j.locale) (items js)))
+    → IfOk r (λ js. (whole : List RangeValue) (axes : List AxisValue) → AreParts whole axes parts → HaveWorkers (part whole axes) (length parts) (map (λ (j : Job). j.locale) (items js)))
+jobs-have items (Ok js) parts have = λ whole axes are. parts-have whole axes parts are (map (λ (j : Job). j.locale) (items js)) (have whole axes)
 jobs-have items (Err e) parts have = tt

@@ -1,5 +1,5 @@
--- The part of a locale, where it is one domain at most; and a list that becomes longer.
-use Rattle.std.proofs.Common.{◌≡◌, ◌<◌, ◌≤◌, ◌==◌, ◌+◌, ℕ, zero, suc, arith, true, get_or, length, List, [], ◌∷◌, Option, slice_get, refl, subst, ◌∙◌}
+-- What is cut into one piece at most; and a list that becomes longer.
+use Rattle.std.proofs.Common.{◌≡◌, ◌<◌, ◌≤◌, ◌==◌, ◌+◌, ℕ, zero, suc, arith, true, get_or, length, List, [], ◌∷◌, refl, ap, ◌∙◌}
 use Rattle.std.specs.Prelude.{◌++◌}
 use Rattle.std.specs.List.{All, AllByRecursion, filter}
 use Rattle.std.proofs.lemmas.List.Elements.{recursion_from_All}
@@ -9,20 +9,22 @@ use Rattle.dpl_map.specs.Cuts.{AreCut}
 use Rattle.dpl_language.specs.Values.{Index}
 use Rattle.dpl_apart.proofs.Split.{each-weaker}
 use Rattle.dpl_apart.proofs.Parts.{filter-all}
-use Rattle.dpl_loop.specs.Parts.{IsSolePart}
 
--- a list that is cut into one piece at most is that piece, or has nothing
-pub sole-piece : (ts : List Index) (domains : List (List RangeValue)) → AreCut indices ts domains → length domains ≤ 1 → (p : Option (List RangeValue)) → slice_get domains 0 ≡ p → IsSolePart ts p
-sole-piece [] [] cut few p at = subst (IsSolePart []) at refl
-sole-piece (t ∷ ts) [] cut few p at = absurd (let within = cut.numbered 0 t (omega arith) in omega (arith, within))
-sole-piece ts (d ∷ []) cut few p at =
-    subst (IsSolePart ts) at
-    (let listed : indices d ≡ filter (λ x. cut.number x == 0) ts = cut.listed 0 in
-    listed ∙ filter-all (λ x. cut.number x == 0) ts (numbers ts (λ k x within. cut.numbered k x within)))
+-- a list that is cut into no piece has nothing
+pub no-piece : (ts : List Index) (domains : List (List RangeValue)) → length domains < 1 → AreCut indices ts domains → ts ≡ []
+no-piece [] domains few cut = refl
+no-piece (t ∷ ts) domains few cut = absurd (let within = cut.numbered 0 t (omega arith) in omega (arith, within, few))
+
+-- and one that is cut into one is that piece
+pub sole-piece : (ts : List Index) (domains : List (List RangeValue)) (d : List RangeValue) → 1 ≤ length domains → length domains < 2 → d ≡ get_or domains 0 d → AreCut indices ts domains → indices d ≡ ts
+sole-piece ts [] d some few is cut = absurd (omega (arith, some))
+sole-piece ts (e ∷ f ∷ more) d some few is cut = absurd (omega (arith, few))
+sole-piece ts (e ∷ []) d some few is cut =
+    let listed : indices e ≡ filter (λ x. cut.number x == 0) ts = cut.listed 0 in
+    ap indices is ∙ listed ∙ filter-all (λ x. cut.number x == 0) ts (numbers ts (λ k x within. cut.numbered k x within))
   where
     numbers : (xs : List Index) → All (λ x. cut.number x < 1) xs → AllByRecursion (λ x. (cut.number x == 0) ≡ true) xs
     numbers xs all = each-weaker _ _ xs (λ x below. let zero_is : cut.number x ≡ 0 = omega (arith, below) in rw zero_is refl) (recursion_from_All (λ x. cut.number x < 1) xs all)
-sole-piece ts (d ∷ e ∷ more) cut few p at = absurd (omega (arith, few))
 
 -- one more behind a list
 pub one-more : {X : Type 0} (P : ℕ → X → Type 0) (none : X) (xs : List X) (p : X) → ((k : ℕ) → k < length xs → P k (get_or xs k none)) → P (length xs) p

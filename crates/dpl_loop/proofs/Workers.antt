@@ -21,13 +21,14 @@ refuses-whole may part whole map h =
     (h.3.1, h.3.0, h.3.3, subst (λ t. may (owner map t) h.3.1) same h.3.4)
 
 -- one job more
-pub done-next : (may : Type 0) (turn : Limits → Index → Run Memory) (js : List Job) (ws : List Worked) (j : Job) (w : Worked) → HaveDone may turn js ws → HasDone may turn j w → HaveDone may turn (js ++ j ∷ []) (ws ++ w ∷ [])
-done-next may turn [] [] j w all one = (one, tt)
-done-next may turn [] (v ∷ ws) j w all one = absurd all
-done-next may turn (i ∷ js) [] j w all one = absurd all
-done-next may turn (i ∷ js) (v ∷ ws) j w all one = (all.0, done-next may turn js ws j w all.1 one)
+module _ (may : Type 0) (turn : Limits → Index → Run Memory) (whole : List RangeValue) (axes : List AxisValue) where
+  pub done-next : (js : List Job) (ws : List Worked) (j : Job) (w : Worked) → HaveDone may turn whole axes js ws → HasDone may turn whole axes j w → HaveDone may turn whole axes (js ++ j ∷ []) (ws ++ w ∷ [])
+  done-next [] [] j w all one = (one, tt)
+  done-next [] (v ∷ ws) j w all one = absurd all
+  done-next (i ∷ js) [] j w all one = absurd all
+  done-next (i ∷ js) (v ∷ ws) j w all one = (all.0, done-next js ws j w all.1 one)
 
-pub done-more : (may : Type 0) (turn : Limits → Index → Run Memory) (js : List Job) (ws : List Worked) (j : Job) (w : Worked) (jobs : List Job) (done : List Worked) → jobs ≡ js ++ j ∷ [] → done ≡ ws ++ w ∷ []
-    → HaveDone may turn js ws → HasDone may turn j w → HaveDone may turn jobs done
-done-more may turn js ws j w jobs done popped pushed all one =
-    subst (λ jobs. HaveDone may turn jobs done) (sym popped) (subst (λ done. HaveDone may turn (js ++ j ∷ []) done) (sym pushed) (done-next may turn js ws j w all one))
+  pub done-more : (js : List Job) (ws : List Worked) (j : Job) (w : Worked) (jobs : List Job) (done : List Worked) → jobs ≡ js ++ j ∷ [] → done ≡ ws ++ w ∷ []
+      → HaveDone may turn whole axes js ws → HasDone may turn whole axes j w → HaveDone may turn whole axes jobs done
+  done-more js ws j w jobs done popped pushed all one =
+      subst (λ jobs. HaveDone may turn whole axes jobs done) (sym popped) (subst (λ done. HaveDone may turn whole axes (js ++ j ∷ []) done) (sym pushed) (done-next js ws j w all one))

@@ -18,11 +18,11 @@ use Rattle.dpl_loop.specs.declared.taken.Taken.{Taken}
 use Rattle.dpl_loop.specs.declared.plan.Plan.{Plan}
 use Rattle.dpl_loop.specs.Formed.{IsWhole}
 use Rattle.dpl_loop.specs.Workers.{HasWorked}
-use Rattle.dpl_loop.specs.Parts.{AreSoleParts}
+use Rattle.dpl_loop.specs.Parts.{AreParts}
 use Rattle.dpl_loop.specs.Taken.{given_back}
 use Rattle.dpl_loop.specs.Joined.{words_left, words_by, reduced_to}
 
--- turns over a domain may be made apart over a memory, and each locale's part of the domain is one domain
+-- turns over a domain may be made apart over a memory, and these are the locales' parts of the domain
 pub record IsPlan (turn : Limits → Index → Run Memory) (whole : List RangeValue) (axes : List AxisValue) (m : Memory) (p : Plan) : Type 0 where
   pub may : (limits : Limits) → MayBeApart p.apart (turn limits)
   pub rank : length whole ≡ p.apart.rank
@@ -30,7 +30,7 @@ pub record IsPlan (turn : Limits → Index → Run Memory) (whole : List RangeVa
   pub exact : AreExact (operators_of p.apart.reduced) (words_in p.apart.reduced m)
   pub once : AreOnce p.apart.written
   pub whole_arrays : AllByRecursion (IsWhole m) p.apart.written
-  pub parts : AreSoleParts whole axes p.parts.items
+  pub parts : AreParts whole axes p.parts.items
 
 -- workers have made the turns of a domain: one for each of so many locales whose part isn't empty
 pub record HaveMade (may : Type 0) (turn : Index → Run Memory) (h : Changes) (whole : List RangeValue) (axes : List AxisValue) (n : ℕ) (m : Memory) (ws : List Worked) : Type 0 where

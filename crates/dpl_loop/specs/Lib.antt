@@ -4,6 +4,7 @@ pub mod Entries
 pub mod Values
 pub mod Folds
 pub mod Workers
+pub mod Owned
 pub mod Parts
 pub mod Taken
 pub mod Formed

@@ -13,33 +13,40 @@ use Rattle.dpl_frame.specs.Frames.{Framed, with_memory}
 use Rattle.dpl_frame.specs.declared.share.Share.{Share}
 use Rattle.dpl_frame.specs.declared.share.Share.TheVariants.{Lent}
 use Rattle.dpl_loop.specs.declared.job.Job.{Job}
+use Rattle.dpl_loop.specs.declared.parts.Part.{Part}
+use Rattle.dpl_loop.specs.declared.parts.Part.TheVariants.{Sole, Owned}
 use Rattle.dpl_loop.specs.declared.taken.Taken.{Taken}
 use Rattle.dpl_loop.specs.Formed.{begun_with}
 use Rattle.dpl_loop.specs.Taken.{AreThere, share_of}
 
--- the part of a locale, as one domain; a locale without indices has none
-abbrev pub IsSolePart : List Index → Option (List RangeValue) → Type 0
-IsSolePart ts None = ts ≡ []
-IsSolePart ts (Some d) = indices d ≡ ts
+-- the indices that a part of a locale stands for
+abbrev pub indices_of : Part → List RangeValue → List AxisValue → ℕ → List Index
+indices_of (Sole d) whole axes l = indices d
+indices_of Owned whole axes l = part whole axes l
 
--- the indices of a part
-abbrev pub part_in : Option (List RangeValue) → List Index
-part_in None = []
-part_in (Some d) = indices d
+-- the part of a locale; one without indices has none
+abbrev pub IsPart : List RangeValue → List AxisValue → ℕ → Option Part → Type 0
+IsPart whole axes l None = part whole axes l ≡ []
+IsPart whole axes l (Some p) = indices_of p whole axes l ≡ part whole axes l
+
+-- the indices of a part, if there is one
+abbrev pub part_in : List RangeValue → List AxisValue → ℕ → Option Part → List Index
+part_in whole axes l None = []
+part_in whole axes l (Some p) = indices_of p whole axes l
 
 -- one for each locale of a map
-pub record AreSoleParts (whole : List RangeValue) (axes : List AxisValue) (parts : List (Option (List RangeValue))) : Type 0 where
+pub record AreParts (whole : List RangeValue) (axes : List AxisValue) (parts : List (Option Part)) : Type 0 where
   pub count : length parts ≡ locales axes
   pub owners : (t : Index) → owner axes t < length parts
-  pub each : (l : ℕ) → l < length parts → IsSolePart (part whole axes l) (get_or parts l None)
+  pub each : (l : ℕ) → l < length parts → IsPart whole axes l (get_or parts l None)
 
 -- the job of a locale: its part of a domain, and a frame with what its worker begins with
 pub record IsJob (h : Changes) (whole : List RangeValue) (axes : List AxisValue) (m : Memory) (f : Framed) (j : Job) : Type 0 where
-  pub part : indices j.part.now ≡ part whole axes j.locale
+  pub part : indices_of j.part.now whole axes j.locale ≡ part whole axes j.locale
   pub frame : j.frame ≡ with_memory (worker_memory h (owner axes) j.locale m) f
 
 -- it is begun: the locale has one of some parts, and of what was taken apart its pieces
-pub record IsBegun (ps : List (ℕ × Op)) (parts : List (Option (List RangeValue))) (ts : List Taken) (f : Framed) (j : Job) : Type 0 where
+pub record IsBegun (ps : List (ℕ × Op)) (parts : List (Option Part)) (ts : List Taken) (f : Framed) (j : Job) : Type 0 where
   pub below : j.locale < length parts
   pub part : get_or parts j.locale None ≡ Some j.part.now
   pub own : List Share

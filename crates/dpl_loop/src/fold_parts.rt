@@ -8,13 +8,14 @@ ghost use Rattle.dpl_language.specs.Expressions.{fold_over};
 ghost use Rattle.dpl_frame.specs.Faults.{Tells};
 ghost use Rattle.dpl_loop.specs.Entries.{MayRefuse};
 ghost use Rattle.dpl_loop.specs.Values.{AnswersTell, MayAnswerRefused, StripsTell, FoldsTell, MayEndRefused, MayRefuseAmong};
-ghost use Rattle.dpl_loop.specs.Parts.{AreSoleParts};
+ghost use Rattle.dpl_loop.specs.Parts.{AreParts, indices_of};
 ghost use Rattle.dpl_loop.specs.Folds.{in_turns, FoldEnds, PartsEnd, parts_ran, ArePartOperands};
 
 use crate::ended::{Ended, both};
+use crate::fold_owned::fold_owned;
 use crate::gate::Gate;
 use crate::part::PartGate;
-use crate::parts::sole_parts;
+use crate::parts::{Part, parts};
 use crate::plan::serve;
 use crate::reduction::Operator;
 use crate::strip::Strip;
@@ -46,7 +47,8 @@ fn fold_part<
     operator: &O,
     dealt: &Dealt<'_, G>,
     whole: &Domain,
-    part: &Domain,
+    part: Part,
+    locale: usize,
     item_at: &F,
     strip_at: &S,
 ) -> Ended
@@ -55,17 +57,22 @@ fn fold_part<
     ensures { (meaning : IndexValue → Result Value Fault) → AnswersTell O.value (F.post item_at.now) meaning
         → StripsTell O.value (S.post strip_at.now) meaning
         → FoldEnds (MayRefuseAmong (G.may_refuse dealt.now.gate.now) dealt.now.map.now (indices whole.now) ⊎ MayAnswerRefused (F.post item_at.now))
-        O.value (O.op operator.now) (in_turns meaning) (indices part.now) result.turn result.item }
+        O.value (O.op operator.now) (in_turns meaning) (indices_of part whole.now dealt.now.map.now locale) result.turn result.item }
 {
-    let gate = PartGate {
-        gate: dealt.gate,
-        part,
-        whole,
-    };
     let mut turn = Turn::Absent;
-    let item = fold_strips(
-        operator, part, dealt.map, item_at, strip_at, &gate, &mut turn,
-    );
+    let item = match part {
+        Part::Sole(part) => {
+            let gate = PartGate {
+                gate: dealt.gate,
+                part: &part,
+                whole,
+            };
+            fold_strips(
+                operator, &part, dealt.map, item_at, strip_at, &gate, &mut turn,
+            )
+        }
+        Part::Owned => fold_owned(operator, dealt, whole, locale, item_at, strip_at, &mut turn),
+    };
     Ended { item, turn }
 }
 
@@ -75,19 +82,20 @@ struct Shared<'a, W, P> {
     operator: &'a W,
     whole: &'a Domain,
     map: &'a Map,
-    parts: &'a [Option<Domain>],
+    parts: &'a [Option<Part>],
     fold: &'a P,
 }
 
 // What the parts of the locales from one on come to together.
-fn spread<R: Threads + Sync, W: OnWords + Sync, P: Fn(Domain) -> Ended + Sync>(
+fn spread<R: Threads + Sync, W: OnWords + Sync, P: Fn(Part, usize) -> Ended + Sync>(
     rt: &R,
     shared: &Shared<'_, W, P>,
     locale: usize,
 ) -> Ended
     requires folds { P.IsAlwaysCallable shared.now.fold.now }
-    requires parts { AreSoleParts shared.now.whole.now shared.now.map.now shared.now.parts.now }
-    ensures { (meaning : IndexValue → Result Value Fault) → FoldsTell W.value (W.op shared.now.operator.now) meaning (P.post shared.now.fold.now)
+    requires parts { AreParts shared.now.whole.now shared.now.map.now shared.now.parts.now }
+    ensures { (meaning : IndexValue → Result Value Fault) → FoldsTell W.value (W.op shared.now.operator.now) meaning
+        shared.now.whole.now shared.now.map.now (P.post shared.now.fold.now)
         → PartsEnd (MayEndRefused (P.post shared.now.fold.now)) W.value (indices shared.now.whole.now)
         (parts_ran (W.op shared.now.operator.now) (in_turns meaning) shared.now.whole.now shared.now.map.now locale
         (length shared.now.parts.now - locale))
@@ -108,14 +116,15 @@ fn spread<R: Threads + Sync, W: OnWords + Sync, P: Fn(Domain) -> Ended + Sync>(
     };
     let own = move || -> Ended
         requires { P.IsAlwaysCallable shared.now.fold.now }
-        ensures { P.post shared.entry.now.fold.now part.entry.now result }
-    { (shared.fold)(*part) };
+        ensures { P.post shared.entry.now.fold.now part.entry.now locale result }
+    { (shared.fold)(*part, locale) };
     let next = locale + 1;
     let others = move || -> Ended
         requires folds { P.IsAlwaysCallable shared.now.fold.now }
-        requires parts { AreSoleParts shared.now.whole.now shared.now.map.now shared.now.parts.now }
+        requires parts { AreParts shared.now.whole.now shared.now.map.now shared.now.parts.now }
         ensures { (meaning : IndexValue → Result Value Fault)
-            → FoldsTell W.value (W.op shared.entry.now.operator.now) meaning (P.post shared.entry.now.fold.now)
+            → FoldsTell W.value (W.op shared.entry.now.operator.now) meaning shared.entry.now.whole.now shared.entry.now.map.now
+            (P.post shared.entry.now.fold.now)
             → PartsEnd (MayEndRefused (P.post shared.entry.now.fold.now)) W.value (indices shared.entry.now.whole.now)
             (parts_ran (W.op shared.entry.now.operator.now) (in_turns meaning) shared.entry.now.whole.now shared.entry.now.map.now next
             (length shared.entry.now.parts.now - next))
@@ -126,18 +135,21 @@ fn spread<R: Threads + Sync, W: OnWords + Sync, P: Fn(Domain) -> Ended + Sync>(
     both(shared.operator, shared.whole, first, behind)
 }
 
-// The parts that workers fold, by locales; none where workers don't serve, or where the part of some locale is several domains.
+// The parts that workers fold, by locales; none where workers don't serve.
 fn parts_of<G: Gate>(
     alloc: Global,
     dealt: &Dealt<'_, G>,
     whole: &Domain,
-) -> Result<Option<Vec<Option<Domain>>>, AllocError>
-    ensures { IfOk result (λ parts. IfSome parts (λ parts. AreSoleParts whole.now dealt.now.map.now parts.items)) }
+) -> Result<Option<Vec<Option<Part>>>, AllocError>
+    ensures { IfOk result (λ parts. IfSome parts (λ parts. AreParts whole.now dealt.now.map.now parts.items)) }
 {
     if !serve(whole, dealt.map, dealt.gate) {
         return Ok(None);
     }
-    sole_parts(alloc, dealt.map, whole)
+    match parts(alloc, dealt.map, whole) {
+        Ok(parts) => Ok(Some(parts)),
+        Err(error) => Err(error),
+    }
 }
 
 /// The ints of a domain's indices put together, as [`reduce_ints`](crate::reduce_ints) does it: by workers, one for each locale whose part
@@ -177,13 +189,13 @@ pub fn reduce_by_workers<
             operator, &whole, dealt.map, &item_at, &strip_at, dealt.gate, turn,
         );
     };
-    let fold = |part: Domain| -> Ended
+    let fold = |part: Part, locale: usize| -> Ended
         requires items { F.IsAlwaysCallable item_at }
         requires strips { S.IsAlwaysCallable strip_at }
         ensures { (meaning : IndexValue → Result Value Fault) → AnswersTell O.value (F.post item_at) meaning → StripsTell O.value (S.post strip_at) meaning
             → FoldEnds (MayRefuseAmong (G.may_refuse dealt.entry.now.gate.now) dealt.entry.now.map.now (indices whole) ⊎ MayAnswerRefused (F.post item_at))
-            O.value (O.op operator.entry.now) (in_turns meaning) (indices part) result.turn result.item }
-    { fold_part(operator, dealt, &whole, &part, &item_at, &strip_at) };
+            O.value (O.op operator.entry.now) (in_turns meaning) (indices_of part whole dealt.entry.now.map.now locale) result.turn result.item }
+    { fold_part(operator, dealt, &whole, part, locale, &item_at, &strip_at) };
     let shared = Shared {
         operator: &Words { operator },
         whole: &whole,

@@ -1,14 +1,14 @@
 // What a worker of a forall begins with, and what it hands back when its turns are over. What it hands back has no lifetime.
 
+use crate::parts::Part;
 use crate::stop::RunStop;
-use dpl_domain::Domain;
 use dpl_frame::{Frame, PlainWords, Share, Shares};
 
 // A locale's part of a loop, and the frame in which its turns are made.
 #[derive(Drop)]
 pub(crate) struct Job<'w> {
     pub(crate) locale: u32,
-    pub(crate) part: &'w Domain,
+    pub(crate) part: &'w Part,
     pub(crate) frame: Frame<Shares<'w>>,
 }
 

@@ -10,14 +10,14 @@ ghost use Rattle.dpl_memory.specs.Memory.{Memory, intents_by_slot};
 ghost use Rattle.dpl_nodes.specs.Steps.{intent_view};
 ghost use Rattle.dpl_apart.specs.Workers.{HaveWorkers};
 ghost use Rattle.dpl_frame.specs.declared.share.Share.TheVariants.{Lent};
-ghost use Rattle.dpl_loop.specs.Parts.{AreSoleParts, IsJob, IsBegun, part_in};
+ghost use Rattle.dpl_loop.specs.Parts.{AreParts, IsJob, IsBegun, part_in};
 ghost use Rattle.dpl_loop.specs.Taken.{AreTaken, AreThere, share_of, lacking};
 
 use crate::apart::Apart;
 use crate::job::Job;
+use crate::parts::Part;
 use crate::taken::Taken;
 use crate::units::begin;
-use dpl_domain::Domain;
 use dpl_frame::{Frame, Share, Slots};
 use dpl_nodes::Intent;
 use std::alloc::{AllocError, Global};
@@ -55,13 +55,14 @@ fn own_of(locale: u32, taken: &mut [Taken], alloc: Global) -> Result<Vec<Share>,
 // The jobs of the locales from 0 on, of which these are the parts.
 fn begin_all<'w>(
     intents: &[Intent],
-    parts: &'w [Option<Domain>],
+    parts: &'w [Option<Part>],
     taken: &mut [Taken],
     frame: &'w Frame<Slots>,
 ) -> Result<Vec<Job<'w>>, AllocError>
     ensures jobs { IfOk result (λ js. AllByRecursion
         (IsBegun (intents_by_slot (map intent_view intents.now)) parts.now taken.old frame.now) js.items) }
-    ensures locales { IfOk result (λ js. HaveWorkers (λ l. part_in (get_or parts.now l None)) (length parts.now) (map (λ j. j.locale) js.items)) }
+    ensures locales { IfOk result (λ js. (whole : List RangeValue) (axes : List AxisValue)
+        → HaveWorkers (λ l. part_in whole axes l (get_or parts.now l None)) (length parts.now) (map (λ j. j.locale) js.items)) }
     ensures taken { IfOk result (λ js. taken.new ≡ map (lacking (map (λ j. j.locale) js.items)) taken.old) }
 {
     let [rest @ .., part] = parts else {
@@ -87,13 +88,13 @@ fn begin_all<'w>(
 /// Out of memory.
 pub(crate) fn jobs<'w>(
     apart: &Apart<'_>,
-    parts: &'w [Option<Domain>],
+    parts: &'w [Option<Part>],
     taken: &mut Vec<Taken>,
     frame: &'w Frame<Slots>,
 ) -> Result<Vec<Job<'w>>, AllocError>
-    ensures jobs { IfOk result (λ js. (whole : List RangeValue) (axes : List AxisValue) (m : Memory) → AreSoleParts whole axes parts.now
+    ensures jobs { IfOk result (λ js. (whole : List RangeValue) (axes : List AxisValue) (m : Memory) → AreParts whole axes parts.now
         → AreTaken axes apart.now.written m taken.old.items frame.now.memory → AllByRecursion (IsJob apart.now whole axes m frame.now) js.items) }
-    ensures locales { IfOk result (λ js. (whole : List RangeValue) (axes : List AxisValue) → AreSoleParts whole axes parts.now
+    ensures locales { IfOk result (λ js. (whole : List RangeValue) (axes : List AxisValue) → AreParts whole axes parts.now
         → HaveWorkers (part whole axes) (length parts.now) (map (λ j. j.locale) js.items)) }
     ensures taken { IfOk result (λ js. taken.new.items ≡ map (lacking (map (λ j. j.locale) js.items)) taken.old.items) }
 {

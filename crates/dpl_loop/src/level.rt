@@ -5,12 +5,13 @@ ghost use Rattle.std.specs.Prelude.{◌≡◌, [], IfOk, IfErr};
 ghost use Rattle.dpl_sets.specs.Indices.{indices};
 ghost use Rattle.dpl_language.specs.Loops.{named_turn};
 ghost use Rattle.dpl_loop.specs.Values.{MayRefuseAmong};
+ghost use Rattle.dpl_loop.specs.Parts.{indices_of};
 ghost use Rattle.dpl_loop.specs.Workers.{HasWorked, HaveDone, IsUnmade};
 
 use crate::gate::Gate;
 use crate::job::{Job, Worked};
-use crate::loops::turns_of;
-use crate::part::PartGate;
+use crate::part::part_turns;
+use crate::parts::Part;
 use crate::stop::RunStop;
 use crate::turns::Turns;
 use dpl_domain::Domain;
@@ -33,20 +34,16 @@ pub(crate) struct Site<'a, T, G> {
 fn work<T: Turns, G: Gate>(
     site: &Site<'_, T, G>,
     locale: u32,
-    part: &Domain,
+    part: &Part,
     frame: Frame<Shares<'_>>,
 ) -> Worked
     ensures locale { result.locale ≡ locale }
     ensures worked { HasWorked (MayRefuseAmong (G.may_refuse site.now.gate.now) site.now.map.now (indices site.now.whole.now))
-        (named_turn (T.turn site.now.turns.now frame.entry.limits)) (indices part.now) frame.entry.memory result }
+        (named_turn (T.turn site.now.turns.now frame.entry.limits)) (indices_of part.now site.now.whole.now site.now.map.now locale)
+        frame.entry.memory result }
 {
     let mut frame = frame;
-    let gate = PartGate {
-        gate: site.gate,
-        part,
-        whole: site.whole,
-    };
-    let end = turns_of(site.turns, part, site.map, &mut frame, &gate);
+    let end = part_turns(site, locale, part, &mut frame);
     let (words, own) = frame.into_parts();
     Worked {
         locale,
@@ -61,7 +58,7 @@ fn work<T: Turns, G: Gate>(
 struct Working<'a, T, G> {
     site: &'a Site<'a, T, G>,
     locale: u32,
-    part: &'a Domain,
+    part: &'a Part,
     began: Snapshot<Frame<Shares<'a>>>,
 }
 
@@ -70,11 +67,13 @@ impl<'a, T: Turns, G: Gate> Promise<Worked> for Working<'a, T, G> {
     ghost use Rattle.dpl_sets.specs.Indices.{indices};
     ghost use Rattle.dpl_language.specs.Loops.{named_turn};
     ghost use Rattle.dpl_loop.specs.Values.{MayRefuseAmong};
+    ghost use Rattle.dpl_loop.specs.Parts.{indices_of};
     ghost use Rattle.dpl_loop.specs.Workers.{HasWorked};
 
     ghost kept_by = { λ p w. (w.locale ≡ p.locale)
         × HasWorked (MayRefuseAmong (G.may_refuse p.site.now.gate.now) p.site.now.map.now (indices p.site.now.whole.now))
-        (named_turn (T.turn p.site.now.turns.now p.began.value.limits)) (indices p.part.now) p.began.value.memory w };
+        (named_turn (T.turn p.site.now.turns.now p.began.value.limits))
+        (indices_of p.part.now p.site.now.whole.now p.site.now.map.now p.locale) p.began.value.memory w };
 }
 
 // Starts a worker for each job, and takes what they have left, in the order of the jobs.
@@ -87,7 +86,7 @@ fn start_all<'s, E, T: Turns + Sync, G: Gate + Sync, R: Threads + Sync>(
 ) -> Result<Vec<Worked>, RunStop>
     requires { done.items ≡ [] }
     ensures done { IfOk result (λ ws. HaveDone (MayRefuseAmong (G.may_refuse site.now.gate.now) site.now.map.now (indices site.now.whole.now))
-        (λ limits. named_turn (T.turn site.now.turns.now limits)) jobs.entry.items ws.items) }
+        (λ limits. named_turn (T.turn site.now.turns.now limits)) site.now.whole.now site.now.map.now jobs.entry.items ws.items) }
     ensures refused { IfErr result IsUnmade }
 {
     let Some(job) = jobs.pop() else {
@@ -107,7 +106,8 @@ fn start_all<'s, E, T: Turns + Sync, G: Gate + Sync, R: Threads + Sync>(
     let task = move || -> Worked
         ensures locale { result.locale ≡ locale }
         ensures worked { HasWorked (MayRefuseAmong (G.may_refuse site.entry.now.gate.now) site.entry.now.map.now (indices site.entry.now.whole.now))
-            (named_turn (T.turn site.entry.now.turns.now frame.entry.limits)) (indices part.entry.now) frame.entry.memory result }
+            (named_turn (T.turn site.entry.now.turns.now frame.entry.limits))
+            (indices_of part.entry.now site.entry.now.whole.now site.entry.now.map.now locale) frame.entry.memory result }
     { work(site, locale, part, frame) };
     let Ok(handle) = scope.spawn_with(promise, task) else {
         return Err(RunStop::Thread);
@@ -138,7 +138,7 @@ pub(crate) fn work_all<'a, T: Turns + Sync, G: Gate + Sync, R: Threads + Wait + 
 ) -> Result<Vec<Worked>, RunStop>
     requires { done.items ≡ [] }
     ensures done { IfOk result (λ ws. HaveDone (MayRefuseAmong (G.may_refuse site.now.gate.now) site.now.map.now (indices site.now.whole.now))
-        (λ limits. named_turn (T.turn site.now.turns.now limits)) jobs.entry.items ws.items) }
+        (λ limits. named_turn (T.turn site.now.turns.now limits)) site.now.whole.now site.now.map.now jobs.entry.items ws.items) }
     ensures refused { IfErr result IsUnmade }
 {
     thread::scope(
@@ -147,7 +147,8 @@ pub(crate) fn work_all<'a, T: Turns + Sync, G: Gate + Sync, R: Threads + Wait + 
         move |scope| -> Result<Vec<Worked>, RunStop>
             requires { done.items ≡ [] }
             ensures done { IfOk result (λ ws. HaveDone (MayRefuseAmong (G.may_refuse site.entry.now.gate.now) site.entry.now.map.now
-                (indices site.entry.now.whole.now)) (λ limits. named_turn (T.turn site.entry.now.turns.now limits)) jobs.entry.items ws.items) }
+                (indices site.entry.now.whole.now)) (λ limits. named_turn (T.turn site.entry.now.turns.now limits)) site.entry.now.whole.now
+                site.entry.now.map.now jobs.entry.items ws.items) }
             ensures refused { IfErr result IsUnmade }
         { start_all(rt, scope, site, jobs, done) },
     )

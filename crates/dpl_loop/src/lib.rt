@@ -2,10 +2,10 @@
 // Read `forall`, whose contract says that a forall is a plain loop, with `Gate` and `Turns`, which it takes; and then `reduce`.
 // `forall_here` is what a caller does alone, and `forall` has workers do it where that serves (plan.rt): the
 // memory is tested (formed.rt) and the domain cut into parts (parts.rt), the arrays that turns write are taken apart (taken.rt), each locale
-// gets a job (jobs.rt, units.rt), which a thread of its own does (level.rt, part.rt); of their ends one is told (soonest.rt), and what they
-// have left is put together (given.rt, joined.rt).
+// gets a job (jobs.rt, units.rt), which a thread of its own does (level.rt, part.rt; where its part is several domains, owned.rt, steady.rt);
+// of their ends one is told (soonest.rt), and what they have left is put together (given.rt, joined.rt).
 // `reduce_ints` is a reduction that the caller makes alone, and `reduce_by_workers` has workers fold the parts of its domain where that serves
-// (fold_parts.rt, ended.rt).
+// (fold_parts.rt, fold_owned.rt, ended.rt).
 // A loop over turns asks them for a whole row at its first index and, where that made some, at each next one (together.rt); how many of the
 // next indices lie behind one another, their place tells (rows.rt). A reduction takes the walk of an item as a closure: a cycle of calls
 // may go through one, where it may not go through a trait. A walk is handed the gate that its reductions ask, and so ends by its value, by
@@ -14,6 +14,7 @@
 
 mod apart;
 mod ended;
+mod fold_owned;
 mod fold_parts;
 mod formed;
 pub mod gate;
@@ -24,12 +25,14 @@ mod joined;
 mod level;
 mod loops;
 mod meeting;
+mod owned;
 mod part;
 mod parts;
 mod plan;
 mod reduction;
 mod rows;
 mod soonest;
+mod steady;
 pub mod stop;
 mod strip;
 mod strips;

@@ -1,10 +1,23 @@
-// The gate of a loop, as it is asked for a part of the loop's domain: with the places of the whole domain.
+// The turns of a part of a loop's domain, and the gate of the loop, as it is asked for them: with the places of the whole domain.
 
 ghost use Rattle.std.specs.Prelude.{◌≡◌};
+ghost use Rattle.dpl_sets.specs.Indices.{indices};
+ghost use Rattle.dpl_language.specs.Outcome.{Deeds, in_order};
+ghost use Rattle.dpl_language.specs.Loops.{named_turn};
 ghost use Rattle.dpl_loop.specs.Entries.{MayRefuseIn};
+ghost use Rattle.dpl_loop.specs.Parts.{indices_of};
+ghost use Rattle.dpl_loop.specs.Runs.{RunsTo};
+ghost use Rattle.dpl_loop.specs.Values.{MayRefuseAmong};
 
 use crate::gate::Gate;
+use crate::level::Site;
+use crate::loops::turns_of;
+use crate::owned::owned_turns;
+use crate::parts::Part;
+use crate::stop::RunStop;
+use crate::turns::Turns;
 use dpl_domain::Domain;
+use dpl_frame::{Arrays, Frame};
 
 // A worker counts places in its part; the gate is asked by those in the whole domain.
 #[derive(Drop)]
@@ -31,4 +44,30 @@ impl<'a, G: Gate> Gate for PartGate<'a, G> {
     fn is_open(&self) -> bool {
         self.gate.is_open()
     }
+}
+
+/// The turns of a locale's part, in order.
+///
+/// # Errors
+/// As for [`forall_here`](crate::forall_here).
+pub(crate) fn part_turns<A: Arrays, T: Turns, G: Gate>(
+    site: &Site<'_, T, G>,
+    locale: u32,
+    part: &Part,
+    frame: &mut Frame<A>,
+) -> Result<(), RunStop>
+    ensures ends { (done : Deeds) → RunsTo (MayRefuseAmong (G.may_refuse site.now.gate.now) site.now.map.now (indices site.now.whole.now))
+        result frame.new.memory done (in_order (named_turn (T.turn site.now.turns.now frame.old.limits))
+        (indices_of part.now site.now.whole.now site.now.map.now locale) frame.old.memory done) }
+    ensures limits { frame.new.limits ≡ frame.old.limits }
+{
+    let Part::Sole(part) = part else {
+        return owned_turns(site, locale, frame);
+    };
+    let gate = PartGate {
+        gate: site.gate,
+        part,
+        whole: site.whole,
+    };
+    turns_of(site.turns, part, site.map, frame, &gate)
 }

@@ -1,32 +1,52 @@
-// The parts of a forall's domain, one for each locale.
+// The parts of a loop's domain, one for each locale.
 
-ghost use Rattle.std.specs.Prelude.{IfOk, IfSome};
-ghost use Rattle.dpl_loop.specs.Parts.{AreSoleParts};
+ghost use Rattle.std.specs.Prelude.{IfOk, ℕ, List};
+ghost use Rattle.dpl_sets.specs.Ranges.{RangeValue};
+ghost use Rattle.dpl_sets.specs.Indices.{indices};
+ghost use Rattle.dpl_map.specs.Cuts.{AreCut};
+ghost use Rattle.dpl_map.specs.Maps.{AxisValue};
+ghost use Rattle.dpl_map.specs.Parts.{part};
+ghost use Rattle.dpl_loop.specs.Parts.{IsPart, AreParts};
 
 use dpl_domain::Domain;
 use dpl_map::Map;
 use std::alloc::{AllocError, Global};
 
-/// The parts of a domain by the locales of a map; none where the part of some locale is several domains.
+// The part of a locale that has an index: one domain; or, where it is several, whatever the locale owns.
+#[derive(Clone, Copy)]
+pub(crate) enum Part {
+    Sole(Domain),
+    Owned,
+}
+
+// A part that is cut into domains.
+fn told(domains: &[Domain]) -> Option<Part>
+    ensures { (whole : List RangeValue) (axes : List AxisValue) (l : ℕ) → AreCut indices (part whole axes l) domains.now → IsPart whole axes l result }
+{
+    match domains {
+        [] => None,
+        [domain] => Some(Part::Sole(*domain)),
+        _ => Some(Part::Owned),
+    }
+}
+
+/// The parts of a domain by the locales of a map.
 ///
 /// # Errors
 /// Out of memory.
-pub(crate) fn sole_parts(
+pub(crate) fn parts(
     alloc: Global,
     map: &Map,
     whole: &Domain,
-) -> Result<Option<Vec<Option<Domain>>>, AllocError>
-    ensures { IfOk result (λ parts. IfSome parts (λ parts. AreSoleParts whole.now map.now parts.items)) }
+) -> Result<Vec<Option<Part>>, AllocError>
+    ensures { IfOk result (λ parts. AreParts whole.now map.now parts.items) }
 {
     let mut parts = Vec::new(alloc);
     for locale in 0..map.locales() {
         let Ok(domains) = map.part(alloc, whole, locale) else {
             return Err(AllocError);
         };
-        if 1 < domains.len() {
-            return Ok(None);
-        }
-        parts.push(domains.first().copied())?;
+        parts.push(told(&domains))?;
     }
-    Ok(Some(parts))
+    Ok(parts)
 }

@@ -1,7 +1,7 @@
 // Foralls by workers: one for each locale whose part of the loop's domain isn't empty. Each owns its pieces of the arrays that the turns
 // write, is lent the others, and adds to reduce variables from nothing; then all is put together.
 // Turns that don't tell how they may be made apart are made in order, and so are those for which workers don't serve: where the gate is open
-// and the loop is small, where an array was dealt out by another map, or where a part is several domains.
+// and the loop is small or cut into small blocks, or where an array was dealt out by another map.
 
 ghost use Rattle.std.specs.Prelude.{◌≡◌, [], ◌∷◌, ℕ, None, Ok, Err, map, length, IfOk, IfErr, IfSome, OnOk};
 ghost use Rattle.std.specs.List.{AllByRecursion};
@@ -29,7 +29,7 @@ use crate::jobs::jobs;
 use crate::joined::{set_words, take_left, words_left};
 use crate::level::{Site, work_all};
 use crate::loops::turns_of;
-use crate::parts::sole_parts;
+use crate::parts::{Part, parts};
 use crate::soonest::ended;
 use crate::stop::RunStop;
 use crate::taken::{Taken, are_dealt_by, take_all};
@@ -45,16 +45,34 @@ use std::thread::Threads;
 // Below so many turns an open gate's loop is made by its caller: to start and to join workers takes as long as they do.
 const WORTH: u64 = 30_000;
 
+// Where a part is several domains, each worker looks at all blocks of the domain: so many indices of a row make good the look at one.
+const LONG: u64 = 32;
+
+// Whether the blocks that rows are cut into have many indices, as the block of the first index has.
+fn has_long_blocks(domain: &Domain, map: &Map) -> bool {
+    let Some(first) = domain.nth(0) else {
+        return false;
+    };
+    let (_, _, inner) = domain.ranges();
+    let step = inner.stride();
+    let behind = map.likely(first, step);
+    let before = map.likely(first, step.wrapping_neg());
+    LONG < behind.saturating_add(before)
+}
+
 /// Whether workers serve a loop. A gate that isn't open sees who makes a turn, so there they are always started.
 pub(crate) fn serve<G: Gate>(domain: &Domain, map: &Map, gate: &G) -> bool {
-    !gate.is_open() || (1 < map.locales() && WORTH <= domain.size())
+    if !gate.is_open() {
+        return true;
+    }
+    1 < map.locales() && WORTH <= domain.size() && has_long_blocks(domain, map)
 }
 
 // How the turns of a loop are made apart, and for each locale its part of the domain.
 #[derive(Drop)]
 struct Plan<'b> {
     apart: Apart<'b>,
-    parts: Vec<Option<Domain>>,
+    parts: Vec<Option<Part>>,
 }
 
 // How workers make a loop; none where they don't serve, or where what the law of turns that are made apart asks doesn't hold.
@@ -79,9 +97,8 @@ fn planned<'b, T: Turns, G: Gate>(
     if !are_dealt_by(apart.written, site.map, frame) {
         return Ok(None);
     }
-    match sole_parts(frame.alloc(), site.map, site.whole) {
-        Ok(Some(parts)) => Ok(Some(Plan { apart, parts })),
-        Ok(None) => Ok(None),
+    match parts(frame.alloc(), site.map, site.whole) {
+        Ok(parts) => Ok(Some(Plan { apart, parts })),
         Err(error) => Err(error),
     }
 }

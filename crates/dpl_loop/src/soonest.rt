@@ -42,7 +42,11 @@ fn rank(whole: &Domain, stop: &RunStop) -> u64
 }
 
 // Of two ends the one that is told. Turns that ended well tell nothing.
-fn sooner(whole: &Domain, one: Result<(), RunStop>, other: Result<(), RunStop>) -> Result<(), RunStop>
+fn sooner(
+    whole: &Domain,
+    one: Result<(), RunStop>,
+    other: Result<(), RunStop>,
+) -> Result<(), RunStop>
     ensures { result ≡ sooner_in (indices whole.now) one other }
 {
     let Err(stop) = one else {

@@ -10,7 +10,7 @@ ghost use Rattle.dpl_frame.specs.Shares.{own_before};
 ghost use Rattle.dpl_loop.specs.Formed.{with_units, begun_with};
 
 use crate::job::Job;
-use dpl_domain::Domain;
+use crate::parts::Part;
 use dpl_frame::{Arrays, Frame, Share, Slots};
 use dpl_nodes::Intent;
 use dpl_tree::Op;
@@ -50,7 +50,7 @@ fn set_units<A: Arrays>(intents: &[Intent], frame: &mut Frame<A>)
 pub(crate) fn begin<'w>(
     intents: &[Intent],
     locale: u32,
-    part: &'w Domain,
+    part: &'w Part,
     own: Vec<Share>,
     frame: &'w Frame<Slots>,
 ) -> Result<Job<'w>, AllocError>

@@ -1,7 +1,6 @@
 -- The part of a locale, and those of the locales behind it, as one.
 use Rattle.std.proofs.Common.{None, length, sym, subst, ◌∙◌}
-use Rattle.dpl_map.specs.Parts.{part}
-use Rattle.dpl_loop.specs.Parts.{IsSolePart}
+use Rattle.dpl_loop.specs.Parts.{IsPart, indices_of}
 use Rattle.dpl_loop.proofs.Folding.{told-or-refused}
 use Rattle.dpl_loop.proofs.Folds.{level-ends, nothing-ends, part-ends}
 use Rattle.dpl_loop.proofs.fold_parts.+fn-spread-others+spread.Goals as goal
@@ -15,7 +14,7 @@ returns-in_default-part g t c meaning tells =
     let l = c.args.locale in
     let n = length c.args.shared.now.parts.now in
     let here = c.in-Some.ensures.lookup.3 in
-    let none = subst (IsSolePart (part whole axes l)) (sym (here.1 None) ∙ c.in_default-part.is) (c.requires.parts.each l here.0) in
+    let none = subst (IsPart whole axes l) (sym (here.1 None) ∙ c.in_default-part.is) (c.requires.parts.each l here.0) in
     level-ends op meaning whole axes l n here.0 _ value c.none-in_default-part.result.item c.spread-behind.result.item c.both.result.item c.none-in_default-part.result.turn c.spread-behind.result.turn c.both.result.turn
     c.both.ensures
     (nothing-ends op meaning whole axes _ value l c.none-in_default-part.result.turn c.none-in_default-part.result.item none c.none-in_default-part.ensures)
@@ -32,9 +31,9 @@ returns g t c meaning tells =
     let here = c.in-Some.ensures.lookup.3 in
     let first = c.join-first.result.0 in
     let behind = c.join-first.result.1 in
-    let sole = subst (IsSolePart (part whole axes l)) (sym (here.1 None) ∙ c.in-Some-part.is) (c.requires.parts.each l here.0) in
+    let sole = subst (IsPart whole axes l) (sym (here.1 None) ∙ c.in-Some-part.is) (c.requires.parts.each l here.0) in
     level-ends op meaning whole axes l n here.0 _ value first.item behind.item c.both-2.result.item first.turn behind.turn c.both-2.result.turn
     c.both-2.ensures
-    (part-ends op meaning whole axes _ value l c.in-Some-part.part first.turn first.item sole
-    (told-or-refused value op meaning _ tells c.in-Some-part.part first c.join-first.ensures.first))
+    (part-ends op meaning whole axes _ value l (indices_of c.in-Some-part.part whole axes l) first.turn first.item sole
+    (told-or-refused value op meaning whole axes _ tells c.in-Some-part.part l first c.join-first.ensures.first))
     (c.join-first.ensures.second meaning tells)

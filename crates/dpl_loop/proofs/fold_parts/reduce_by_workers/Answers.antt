@@ -5,7 +5,7 @@ use Rattle.dpl_sets.specs.Indices.{indices}
 use Rattle.dpl_map.specs.Maps.{owner}
 use Rattle.dpl_language.specs.Values.{Index}
 use Rattle.dpl_contents.specs.Domains.{AreWritten}
-use Rattle.dpl_loop.specs.Parts.{AreSoleParts}
+use Rattle.dpl_loop.specs.Parts.{AreParts, indices_of}
 use Rattle.dpl_loop.specs.Folds.{in_turns, parts_ran, ArePartOperands, PartsEnd}
 use Rattle.dpl_loop.proofs.FormedMemories.{written-ranges}
 use Rattle.dpl_loop.proofs.Folding.{fold-tells, ends-weaker, parts-tell}
@@ -31,13 +31,13 @@ returns g c meaning answers strips =
     let over = c.args.dealt.now.over in
     let n = length c.deref.result.now in
     let same = ap indices c.domain-whole.ensures.domain in
-    let sole = subst (λ o. IfSome o (λ (ps : _). AreSoleParts whole axes ps.items)) c.in-Some.is c.in-Ok.ensures in
-    let parts = subst (λ (ps : _). AreSoleParts whole axes ps) (sym c.deref.ensures.value) sole in
+    let sole = subst (λ o. IfSome o (λ (ps : _). AreParts whole axes ps.items)) c.in-Some.is c.in-Ok.ensures in
+    let parts = subst (λ (ps : _). AreParts whole axes ps) (sym c.deref.ensures.value) sole in
     let ranges = written-ranges whole (subst AreWritten (sym c.domain-whole.ensures.domain) c.domain-whole.ensures.limits) in
     let all : n - 0 ≡ n = omega arith in
     let below : (t : Index) → owner axes t < n - 0 = λ t. subst (λ k. owner axes t < k) (sym all) (parts.owners t) in
     let ends : PartsEnd _ value (indices whole) (parts_ran op (in_turns meaning) whole axes 0 (n - 0)) (ArePartOperands op (in_turns meaning) whole axes 0 (n - 0)) c.spread-ended.result.turn c.spread-ended.result.item =
-    c.spread-ended.ensures meaning (λ part e post. ends-weaker _ _ value op (in_turns meaning) (indices part) e.turn e.item (λ m. tt) (post.1 meaning answers strips)) in
-    parts-tell _ _ value op meaning _ (indices whole) over c.spread-ended.result.turn c.spread-ended.result.item (among may axes (indices whole) over _ same) same
+    c.spread-ended.ensures meaning (λ p l e post. ends-weaker _ _ value op (in_turns meaning) (indices_of p whole axes l) e.turn e.item (λ m. tt) (post.1 meaning answers strips)) in
+    parts-tell _ _ value op meaning whole axes _ (indices whole) over c.spread-ended.result.turn c.spread-ended.result.item (among may axes (indices whole) over _ same) same
     (all-end op meaning whole axes (n - 0) below ranges _ value c.spread-ended.result.turn c.spread-ended.result.item ends)
-    (λ part e post. post.1 meaning answers strips)
+    (λ p l e post. post.1 meaning answers strips)

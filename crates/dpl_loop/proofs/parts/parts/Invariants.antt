@@ -1,11 +1,10 @@
 -- The locales so far have their parts.
 use Rattle.std.proofs.Common.{◌≡◌, ◌<◌, ℕ, None, get_or, length}
-use Rattle.dpl_map.specs.Parts.{part}
-use Rattle.dpl_loop.specs.Parts.{IsSolePart}
-use Rattle.dpl_loop.proofs.parts.sole_parts.Given as goal
+use Rattle.dpl_loop.specs.Parts.{IsPart}
+use Rattle.dpl_loop.proofs.parts.parts.Given as goal
 
 abbrev pub invariant-loop-locale : goal.invariant-loop-locale
 invariant-loop-locale l = record {
   long : length l.parts.items ≡ l.locale;
-  each : (k : ℕ) → k < length l.parts.items → IsSolePart (part l.whole l.map k) (get_or l.parts.items k None);
+  each : (k : ℕ) → k < length l.parts.items → IsPart l.whole l.map k (get_or l.parts.items k None);
 }
