@@ -4,8 +4,8 @@
 
 pub mod forall;
 pub mod outside;
-pub mod task;
 mod scope;
+pub mod task;
 mod written;
 
 pub use scope::ForallScope;

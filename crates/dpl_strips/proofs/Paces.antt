@@ -28,7 +28,7 @@ wrap-stepping step from p fits goes k below z is =
 pub further : (from step : ℤ) (k : ℕ) → (from +ℤ step *ℤ pos k) +ℤ step ≡ from +ℤ step *ℤ pos (k + 1)
 further from step k =
     let next : step *ℤ pos (k + 1) ≡ step *ℤ pos k +ℤ step =
-        *ℤ_comm step (pos (k + 1)) ∙ ap (λ n. pos n *ℤ step) (add-one k) ∙ suc_ℤ-*ℤ (pos k) step ∙ ap (λ z. z +ℤ step) (*ℤ_comm (pos k) step) in
+    *ℤ_comm step (pos (k + 1)) ∙ ap (λ n. pos n *ℤ step) (add-one k) ∙ suc_ℤ-*ℤ (pos k) step ∙ ap (λ z. z +ℤ step) (*ℤ_comm (pos k) step) in
     omega (arith, ints, next)
 
 -- ---- the variables of a loop
