@@ -1,5 +1,5 @@
 #!/bin/sh
-# Times foralls on one locale, and on four by block and by cyclic maps, all in one run: a stencil over a plane, a mean that is copied back, fills of arrays, sums by a reduce
+# Times foralls on one locale, and on four by block, by cyclic and by block-cyclic maps, all in one run: a stencil over a plane, a mean that is copied back, fills of arrays, sums by a reduce
 # intent and by a reduction, and many small loops. Each program is run with and without its loops' repetitions, so that what is told is the time of the loops alone.
 # usage: scripts/bench-locales.sh [ROUNDS [EXECUTABLE]]. Needs python3.
 set -eu
@@ -23,12 +23,18 @@ PROGRAMS = [
     ("20 foralls of 100 turns, 1,000 times", "const D = {1..100}%s; var A: [D] int; ", "for q in 1..20 do forall i in D do A[i] = A[i] + i;", 1000, "writeln(A[77]);"),
     ("20 foralls of 2,000 turns, 100 times", "const D = {1..2000}%s; var A: [D] int; ", "for q in 1..20 do forall i in D do A[i] = A[i] + i;", 100, "writeln(A[77]);"),
 ]
-SETTINGS = [("one locale", []), ("4, block", ["--locales", "4", "--maps", "block"]), ("4, cyclic", ["--locales", "4", "--maps", "cyclic"])]
+FOUR = ["--locales", "4"]
+SETTINGS = [("one locale", [], False), ("4, block", FOUR + ["--maps", "block"], False), ("4, cyclic", FOUR + ["--maps", "cyclic"], False),
+            ("4, blocks of 64 that go round", FOUR, True)]
 
 
-def box(head):
+# The map that a head names: blocks over its domain, or blocks of 64 in each dimension that go round.
+def dealt(head, goes_round):
     inside = head.split("{", 1)[1].split("}", 1)[0]
-    return " dmapped new blockDist(boundingBox={%s})" % inside
+    if not goes_round:
+        return " dmapped new blockDist(boundingBox={%s})" % inside
+    rank = inside.count("..")
+    return " dmapped new blockCycDist(startIdx=(%s), blocksize=(%s))" % (", ".join(["1"] * rank), ", ".join(["64"] * rank))
 
 
 def run(text, setting):
@@ -39,22 +45,22 @@ def run(text, setting):
     return seconds, done.stdout
 
 
-print("| seconds of one repetition | " + " | ".join(name for name, _ in SETTINGS) + " | block / one | cyclic / one |")
-print("|---|" + "---|" * (len(SETTINGS) + 2))
+print("| seconds of one repetition | " + " | ".join(name for name, _, _ in SETTINGS) + " | block / one | cyclic / one | blocks / one |")
+print("|---|" + "---|" * (len(SETTINGS) + 3))
 for name, head, body, times, tail in PROGRAMS:
-    head = head % box(head)
-    whole = head + "for n in 1..%d do %s " % (times, body) + tail
-    bare = head + tail
     best = {}
     told = set()
     for _ in range(rounds):
-        for key, setting in SETTINGS:
+        for key, setting, goes_round in SETTINGS:
+            begun = head % dealt(head, goes_round)
+            whole = begun + "for n in 1..%d do %s " % (times, body) + tail
+            bare = begun + tail
             for part, text in (("whole", whole), ("bare", bare)):
                 seconds, out = run(text, setting)
                 if part == "whole":
                     told.add(out)
                 best[key, part] = min(seconds, best.get((key, part), 1e9))
     assert len(told) == 1, (name, told)
-    each = [(best[key, "whole"] - best[key, "bare"]) / times for key, _ in SETTINGS]
-    print("| %s | " % name + " | ".join("%.5f" % s for s in each) + " | %.2f | %.2f |" % (each[1] / each[0], each[2] / each[0]))
+    each = [(best[key, "whole"] - best[key, "bare"]) / times for key, _, _ in SETTINGS]
+    print("| %s | " % name + " | ".join("%.5f" % s for s in each) + " |" + "".join(" %.2f |" % (s / each[0]) for s in each[1:]))
 PYTHON
