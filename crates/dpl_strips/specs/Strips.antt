@@ -1,6 +1,6 @@
 -- Ints of several indices at once, and how far turns may change a memory before they are used.
 -- A strip is evaluated before those turns, and each of its ints is the value in the turn of its index all the same.
-use Rattle.std.specs.Prelude.{◌≡◌, ◌≢◌, ◌<◌, ℕ, ℤ, pos, ◌+ℤ◌, ◌-ℤ◌, ◌*ℤ◌, List, [], ◌∷◌, length, get_or, set, None, Result, Ok, FitsSigned}
+use Rattle.std.specs.Prelude.{◌≡◌, ◌≢◌, ◌<◌, ℕ, ℤ, pos, ◌+ℤ◌, ◌-ℤ◌, ◌*ℤ◌, List, [], ◌∷◌, length, get_or, set, None, Result, Ok, FitsSigned, Option, IfSome}
 use Rattle.std.specs.Int.{w64}
 use Rattle.dpl_array.specs.Elements.{Row, behind}
 use Rattle.dpl_language.specs.Tree.{Infix, Add, Subtract, Multiply}
@@ -17,6 +17,7 @@ use Rattle.dpl_nodes.specs.declared.step.Names.{Names}
 use Rattle.dpl_nodes.specs.Typed.{int_view, index_exprs}
 use Rattle.dpl_nodes.specs.Steps.{names_view}
 use Rattle.dpl_loop.specs.declared.strip.Strip.{Strip}
+use Rattle.dpl_strips.specs.declared.target.Target.{Target}
 use Rattle.dpl_strips.specs.declared.pace.Pace.{Pace}
 use Rattle.dpl_strips.specs.declared.pace.Pace.TheVariants.{Steady, Stepping}
 use Rattle.dpl_strips.specs.declared.apply.Wrapping.{Wrapping}
@@ -30,28 +31,34 @@ pub record IsSameAt (t : Index) (s u : Memory) : Type 0 where
   pub elements : (slot : ℕ) → held_at t (array_at slot u) ≡ held_at t (array_at slot s)
 
 -- each of so many words is the int that is meant at its index of a row, in each memory that suits the index
-abbrev pub HoldWhere : (Index → Memory → Type 0) → (Index → Memory → Result Value Fault) → Row → ℕ → (ℕ → ℤ) → Type 0
+abbrev pub HoldWhere : (Row → ℕ → Memory → Type 0) → (Index → Memory → Result Value Fault) → Row → ℕ → (ℕ → ℤ) → Type 0
 HoldWhere Suits meaning row size word =
-    (k : ℕ) → k < size → k < 64 → (u : Memory) → Suits (behind k row) u → meaning (behind k row) u ≡ Ok (Int (word k))
+    (k : ℕ) → k < size → k < 64 → (u : Memory) → Suits row k u → meaning (behind k row) u ≡ Ok (Int (word k))
 
 -- and so are the ints of a strip
-abbrev pub HoldsWhere : (Index → Memory → Type 0) → (Index → Memory → Result Value Fault) → Strip → Type 0
+abbrev pub HoldsWhere : (Row → ℕ → Memory → Type 0) → (Index → Memory → Result Value Fault) → Strip → Type 0
 HoldsWhere Suits meaning strip = HoldWhere Suits meaning strip.row strip.size (λ k. get_or strip.words k (pos 0))
 
 -- each int of a strip is the value at its index, also where elements at other indices have changed
 abbrev pub HoldsAtIndices : (Index → Memory → Result Value Fault) → Memory → Strip → Type 0
-HoldsAtIndices meaning s strip = HoldsWhere (λ t u. IsSameAt t s u) meaning strip
+HoldsAtIndices meaning s strip = HoldsWhere (λ row k u. IsSameAt (behind k row) s u) meaning strip
 
 -- a memory in the turn of an index: the variables of the loop hold the index, and else the word and the array of one slot alone may have
 -- changed
 pub record IsInTurn (names : Names) (target : ℕ) (t : Index) (s u : Memory) : Type 0 where
-  pub numbers : (slot : ℕ) → slot ≢ target → get_or u.words.numbers slot (pos 0) ≡ get_or (bound_to in_memory (names_view names) (Domain []) t s).words.numbers slot (pos 0)
+  pub numbers : (slot : ℕ) → slot ≢ target
+      → get_or u.words.numbers slot (pos 0) ≡ get_or (bound_to in_memory (names_view names) (Domain []) t s).words.numbers slot (pos 0)
   pub tuples : (slot : ℕ) → get_or u.tuples slot no_tuple ≡ get_or (bound_to in_memory (names_view names) (Domain []) t s).tuples slot no_tuple
   pub arrays : (slot : ℕ) → slot ≢ target → array_at slot u ≡ array_at slot s
 
+-- and in the k-th turn of a row, before it writes: of the array that the turns write, its own element hasn't changed
+pub record IsInOwnTurn (names : Names) (target : Target) (row : Row) (k : ℕ) (s u : Memory) : Type 0 where
+  pub turn : IsInTurn names target.slot (behind k row) s u
+  pub own : held_at (behind k target.at) (array_at target.slot u) ≡ held_at (behind k target.at) (array_at target.slot s)
+
 -- each int of a strip is the value in the turn of its index
-abbrev pub HoldsInTurns : Names → ℕ → (Memory → Result Value Fault) → Memory → Strip → Type 0
-HoldsInTurns names target meaning s strip = HoldsWhere (λ t u. IsInTurn names target t s u) (λ t u. meaning u) strip
+abbrev pub HoldsInTurns : Names → Target → (Memory → Result Value Fault) → Memory → Strip → Type 0
+HoldsInTurns names target meaning s strip = HoldsWhere (λ row k u. IsInOwnTurn names target row k s u) (λ t u. meaning u) strip
 
 -- OPERATORS that have no fault: how they stand in a tree, and what they make of two ints
 abbrev pub infix_of : Wrapping → Infix
@@ -74,7 +81,7 @@ right_word (right.Int n) k = n
 right_word (right.Words ws) k = get_or ws.now k (pos 0)
 
 -- it is what is meant at the indices of a row
-abbrev pub RightHolds : (Index → Memory → Type 0) → (Index → Memory → Result Value Fault) → Row → Right → Type 0
+abbrev pub RightHolds : (Row → ℕ → Memory → Type 0) → (Index → Memory → Result Value Fault) → Row → Right → Type 0
 RightHolds Suits meaning row r = HoldWhere Suits meaning row (right_size r) (right_word r)
 
 -- the int in the k-th turn of one that goes so along a row of such a step
@@ -90,6 +97,17 @@ FitsTurns step pace = (k : ℕ) → k < 64 → FitsSigned w64 (paced step pace k
 abbrev pub GoesIn : ℤ → (ℕ → List ℤ) → ℕ → Pace → Type 0
 GoesIn step numbers slot pace = FitsTurns step pace × ((k : ℕ) → k < 64 → get_or (numbers k) slot (pos 0) ≡ paced step pace k)
 
+-- what an operator makes of two ints goes so: it is an int of this pace in each turn of a strip, and they all fit a word
+abbrev pub GoesAs : Wrapping → ℤ → Pace → Pace → Pace → Type 0
+GoesAs operator step a b pace = FitsTurns step pace × ((k : ℕ) → k < 64 → made_by operator (paced step a k) (paced step b k) ≡ paced step pace k)
+
+-- once a variable has got the int that it holds in each turn, the word in a slot goes as the second pace says, where there is one: whatever
+-- the words were of which the first one told how it went before, as long as there are so many of them
+abbrev pub GoesAfter : ℤ → ℕ → ℕ → Pace → ℕ → Option Pace → Option Pace → Type 0
+GoesAfter step slot variable held count before pace =
+    (numbers : ℕ → List ℤ) → ((k : ℕ) → length (numbers k) ≡ count) → IfSome before (GoesIn step numbers slot)
+    → IfSome pace (GoesIn step (λ k. set (numbers k) variable (paced step held k)) slot)
+
 -- the coordinates of an index, one each in slots; a slot without one gets 0
 abbrev pub each_put : List ℕ → Index → List ℤ → List ℤ
 each_put [] t words = words
@@ -103,7 +121,8 @@ turn_numbers names row s k = (bound_to in_memory (names_view names) (Domain []) 
 -- an int goes so through the turns of a row's indices
 abbrev pub GoesAt : Limits → Names → ℕ → Row → Memory → IntExpr → Pace → Type 0
 GoesAt limits names target row s e pace =
-    (k : ℕ) → k < 64 → (u : Memory) → IsInTurn names target (behind k row) s u → value_of limits in_memory (int_view e) None u ≡ Ok (Int (paced row.step pace k))
+    (k : ℕ) → k < 64 → (u : Memory) → IsInTurn names target (behind k row) s u
+    → value_of limits in_memory (int_view e) None u ≡ Ok (Int (paced row.step pace k))
 
 -- the index that is found in a turn lies as far behind another as the turn behind the first
 abbrev pub GoesFrom : Limits → Names → ℕ → Row → Memory → IndexExpr → Row → Type 0
