@@ -60,13 +60,13 @@ module _ {M N G S1 S2 : Type 0} (limits : Limits) (name : N → M) (scoping : Sc
   declare_plain-alike x w None g f d h s1 s2 done r = declaring-alike x (Plain w) PlainForm g refl d h s1 s2 done r
   declare_plain-alike x w (Some i) g f d h s1 s2 done r = plain_init-alike x i.init g f d h s1 s2 done r
 
-  declare_cell-alike : (x : Placed N) (k : Kind) (i : Option (InitialTree N)) (g : G) → fits_initial scoping (fits_side scoping) i g → scoping.declares x.name CellForm g → holds_cells scoping x.name
+  declare_cell-alike : (x : Placed N) (k : Kind) (i : Option (InitialTree N)) (g : G) → fits_initial scoping (fits_side scoping) i g → scoping.declares x.name CellForm g → holds_cells scoping x.name k
       → RunAlike (R g) (R (scoping.add x.name CellForm g)) (declare_with limits first (renamed name x) (CellOf k Empty) (λ v. CellOf k (Full (kept_number v))) (option_map (renamed_initial name) i))
       (declare_with limits second x (CellOf k Empty) (λ v. CellOf k (Full (kept_number v))) i)
-  declare_cell-alike x k None g f d h s1 s2 done r = declaring-alike x (CellOf k Empty) CellForm g refl d (h (CellOf k Empty) refl) s1 s2 done r
+  declare_cell-alike x k None g f d h s1 s2 done r = declaring-alike x (CellOf k Empty) CellForm g refl d (h Empty) s1 s2 done r
   declare_cell-alike x k (Some i) g f d h s1 s2 done r =
       initial_then-alike i.init g (scoping.add x.name CellForm g) _ _ f
-      (λ v. declaring-alike x (CellOf k (Full (kept_number v))) CellForm g refl d (h (CellOf k (Full (kept_number v))) refl)) s1 s2 done r
+      (λ v. declaring-alike x (CellOf k (Full (kept_number v))) CellForm g refl d (h (Full (kept_number v)))) s1 s2 done r
 
   -- ARRAYS
   -- the name may hold each array of this shell whose elements it may hold

@@ -164,7 +164,7 @@ module _ {N : Type 0} where
   declared_suits : (x : N) (t : Option (TypeTree N)) (i : Option (InitialTree N)) → suits_declared anything x t i tt
   declared_suits x None i = initial_suits x (Int (pos 0)) i
   declared_suits x (Some (ScalarType at k)) i = initial_suits x (default k) i
-  declared_suits x (Some (SyncType at kind_at k)) i = λ c e. tt
+  declared_suits x (Some (SyncType at kind_at k)) i = λ c. tt
   declared_suits x (Some (DomainType d)) i = initial_suits x (Domain (empty_domain d.rank)) i
   declared_suits x (Some (ArrayType a)) i = (tt, array_suits x a.kind i)
 

@@ -2,6 +2,7 @@
 -- A tree fits where each of its names is read, assigned, called and declared as that way allows, and holds what it may.
 use Rattle.std.specs.Prelude.{◌≡◌, ℤ, pos, Option, Some, None, List, [], ◌∷◌}
 use Rattle.dpl_syntax.specs.declared.place.Place.{Place}
+use Rattle.dpl_history.specs.declared.cell.CellState.{CellState}
 use Rattle.dpl_language.specs.Tree.{Placed, Op, Assign, Kind, ExprTree, Number, TruthWord, Named, LocalesWord, LocaleCount, HereWord, Grouped, DomainLiteral, Prefixed, Reduced, Chain, Postfixed, ItemTree, One, RangeItem, Stride, NoStride, By, Links, NoLinks, Link, Posts, NoPosts, Post, PostTree, Brackets, Rounds, Dotted, MethodTree, Plainly, Dim, Contains, Expand, CellRead, Items, FirstItem, MoreItems, NoItems, NextItem, Exprs, FirstExpr, MoreExprs, NoExprs, NextExpr}
 use Rattle.dpl_language.specs.Tree.{StartTree, StartExpr, StartTuple, MapTree, BlockMap, CyclicMap, BlockCyclicMap, MappedTree, TypeTree, ScalarType, SyncType, DomainType, ArrayType, InitTree, ItemInit, CreateInit, InitialTree, DeclareTree, ArgumentTree, TextArgument, ExprArgument, VariablesTree, OneVariable, ManyVariables, TargetTree, Whole, Element, CallTree, ReadCall, ResetCall, WriteCall, StmtTree, Nothing, Declare, Assigned, Call, Write, Block, If, While, For, Forall, Coforall, On, Body, WordBody, BlockBody, Stmts, NoStmts, Then, Else, NoElse, ElseDo}
 use Rattle.dpl_language.specs.Values.{Value, Int, Domain, Index, default}
@@ -231,10 +232,10 @@ module _ {N G : Type 0} (scoping : Scoping N G) where
       scoping.gives x g × scoping.declares x PlainForm g × (scoping.add x PlainForm g ≡ scoping.add x form g)
 
   -- What a declaration makes is what its name may hold: of a plain variable its initial value, or where it has none what
-  -- its type gives; of a cell each content of a cell; of an array one over the domain that its type gives, with elements
+  -- its type gives; of a cell each state of one of its kind; of an array one over the domain that its type gives, with elements
   -- that it may hold: those of its initial value, or where it has none what its kind gives.
-  abbrev pub holds_cells : N → Type 0
-  holds_cells x = (c : Content N) → form_of c ≡ CellForm → scoping.holds x c
+  abbrev pub holds_cells : N → Kind → Type 0
+  holds_cells x k = (c : CellState) → scoping.holds x (CellOf k c)
 
   abbrev pub suits_init : N → InitTree N → G → Type 0
   suits_init x (ItemInit item mapped) g = scoping.suits x item g
@@ -255,7 +256,7 @@ module _ {N G : Type 0} (scoping : Scoping N G) where
   abbrev pub suits_declared : N → Option (TypeTree N) → Option (InitialTree N) → G → Type 0
   suits_declared x None initial g = suits_initial x (Int (pos 0)) initial g
   suits_declared x (Some (ScalarType at k)) initial g = suits_initial x (default k) initial g
-  suits_declared x (Some (SyncType at kind_at k)) initial g = holds_cells x
+  suits_declared x (Some (SyncType at kind_at k)) initial g = holds_cells x k
   suits_declared x (Some (DomainType d)) initial g = suits_initial x (Domain (empty_domain d.rank)) initial g
   suits_declared x (Some (ArrayType a)) initial g = scoping.spans_array x a.kind a.over g × suits_array x a.kind initial g
 

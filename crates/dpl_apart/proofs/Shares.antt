@@ -206,7 +206,7 @@ module _ (h : Changes) (owns : Index → ℕ) (l : ℕ) (m : Memory) where
         domains = refl;
         intents = refl;
         sets = refl;
-        roots = refl;
+        rest = refl;
       }
 
       own-numbers : (slot : ℕ) (c : Bool) → is_among slot h.numbers ≡ c

@@ -34,6 +34,9 @@ memory_with i s a = record {
   tuples = no_tuple ∷ no_tuple ∷ no_tuple ∷ [];
   arrays = no_array ∷ no_array ∷ a ∷ [];
   roots = no_root ∷ no_root ∷ no_root ∷ [];
+  cells = [];
+  here = pos 0;
+  coming = record { replies = None; histories = [] };
 }
 
 abbrev pub changes : Changes

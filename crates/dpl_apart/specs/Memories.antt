@@ -7,7 +7,7 @@ use Rattle.dpl_language.specs.Tree.{Op}
 use Rattle.dpl_language.specs.Values.{Index}
 use Rattle.dpl_language.specs.Outcome.{Outcome, Done, Stop, Waits, Run, no_deeds}
 use Rattle.dpl_words.specs.Words.{no_range}
-use Rattle.dpl_memory.specs.Memory.{Held, Memory, no_tuple, array_at, held_at, is_among}
+use Rattle.dpl_memory.specs.Memory.{Held, Memory, rest_of, no_tuple, array_at, held_at, is_among}
 use Rattle.dpl_apart.specs.Operands.{all_combined, unit_words, AreExact}
 use Rattle.dpl_apart.specs.Rows.{Turned, Leaves, Fails, Ran, Loop, run, AreOnce, IsDistinct, Adds}
 use Rattle.dpl_apart.specs.Apart.{IsApart}
@@ -156,7 +156,7 @@ pub record IsLike (h : Changes) (t : Index) (s b : Memory) : Type 0 where
   pub domains : s.domains ≡ b.domains
   pub intents : s.words.intents ≡ b.words.intents
   pub sets : s.words.sets ≡ b.words.sets
-  pub roots : s.roots ≡ b.roots
+  pub rest : rest_of s ≡ rest_of b
 
 -- TURNS THAT KEEP APART
 -- an index of the loop's rank

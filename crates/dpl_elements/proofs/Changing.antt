@@ -15,7 +15,7 @@ use Rattle.dpl_language.specs.Roots.{deal_domain}
 use Rattle.dpl_language.specs.Statements.{exec}
 use Rattle.dpl_lowered.specs.Shapes.{nowhere}
 use Rattle.dpl_lowered.specs.LoweredStatements.{written_initial}
-use Rattle.dpl_words.specs.Words.{LeafKind, IntLeaf, TruthLeaf, RangeLeaf, value_at}
+use Rattle.dpl_words.specs.Words.{LeafKind, IntLeaf, TruthLeaf, RangeLeaf, LocaleLeaf, value_at}
 use Rattle.dpl_memory.specs.Memory.{PlainKind, Variable, Memory, variable, int_leaf, in_memory}
 use Rattle.dpl_memory.proofs.Known.{memory-known}
 use Rattle.dpl_nodes.specs.declared.step.IntDeed.{IntDeed}
@@ -85,6 +85,7 @@ module _ (limits : Limits) where
   plain-undealt IntLeaf slot i s after = refl
   plain-undealt TruthLeaf slot i s after = refl
   plain-undealt RangeLeaf slot i s after = refl
+  plain-undealt LocaleLeaf slot i s after = refl
 
   then-undealt : (k : LeafKind) (slot : ℕ) (i : Option (InitialTree Variable)) (s : Memory) (o : Outcome Memory)
       → then_do o (λ after done. Done (deal_domain limits in_memory None i (variable (PlainKind k) slot) (value_at k slot after.words) s after) done) ≡ o

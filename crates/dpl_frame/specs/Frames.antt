@@ -19,7 +19,7 @@ pub record Framed : Type 0 where
 -- so many slots, which hold nothing yet, and nothing is set
 abbrev pub first_frame : ℕ → Limits → LayoutValue → Framed
 first_frame slots limits layout = record {
-  memory = first_memory (record { slots = slots; texts = []; words = [] });
+  memory = first_memory (record { slots = slots; cells = 0; texts = []; words = []; histories = None });
   limits = limits;
   layout = layout;
 }

@@ -51,7 +51,7 @@ pub struct Frame<A: Arrays = Slots> {
 }
 
 impl<A: Arrays> Model for Frame<A> {
-    ghost use Rattle.std.specs.Prelude.{◌≡◌, map};
+    ghost use Rattle.std.specs.Prelude.{◌≡◌, pos, None, [], map};
     ghost use Rattle.dpl_memory.specs.Memory.{intents_by_slot};
     ghost use Rattle.dpl_contents.specs.Range.{range_word};
     ghost use Rattle.dpl_nodes.specs.Steps.{intent_view};
@@ -72,6 +72,9 @@ impl<A: Arrays> Model for Frame<A> {
         tuples = f.tuples.items;
         arrays = A.held f.arrays;
         roots = map root_view f.roots.items;
+        cells = [];
+        here = pos 0;
+        coming = record { replies = None; histories = [] };
       };
       limits = record { budget = f.budget; locales = f.locales };
       layout = f.layout;

@@ -14,7 +14,7 @@ use Rattle.dpl_rules.specs.Loops.{is_among}
 use Rattle.dpl_rules.specs.Sound.{is_number_text, is_value_of, is_configured, fits_type, fits_declared, name_and_value, set_fits, and_name, sets_fit}
 use Rattle.dpl_scopes.specs.Slots.{slot_in}
 use Rattle.dpl_says.specs.Given.{number_by, value_by, word_by, words_by}
-use Rattle.dpl_words.specs.Words.{LeafKind, IntLeaf, TruthLeaf, RangeLeaf, is_true, set_at, given_as}
+use Rattle.dpl_words.specs.Words.{LeafKind, IntLeaf, TruthLeaf, RangeLeaf, LocaleLeaf, is_true, set_at, given_as}
 use Rattle.dpl_given.specs.Words.{word_of, word_at, word_in, words_in}
 use Rattle.dpl_given.proofs.Slots.{slot_in-one}
 
@@ -23,6 +23,7 @@ abbrev pub kind_as : LeafKind → Option Kind
 kind_as IntLeaf = Some IntKind
 kind_as TruthLeaf = Some BoolKind
 kind_as RangeLeaf = None
+kind_as LocaleLeaf = None
 
 both : (a b : Bool) → (a && b) ≡ true → (a ≡ true) × (b ≡ true)
 both true true e = (refl, refl)
@@ -44,6 +45,7 @@ value-word IntLeaf BoolKind text e fits = absurd cc
 value-word TruthLeaf IntKind text e fits = absurd cc
 value-word TruthLeaf BoolKind text e fits = truth-word (bytes_eq text (codes "true"))
 value-word RangeLeaf j text e fits = absurd cc
+value-word LocaleLeaf j text e fits = absurd cc
 
 typed-value : (j : Kind) (text : List ℕ) (t : Option ValueType) → option_and_then scalar_of t ≡ Some j → fits_type t text ≡ true → is_value_of j text ≡ true
 typed-value j text None e fits = absurd cc

@@ -230,6 +230,9 @@ impl Axis {
         if self.extent == 1 {
             return true;
         }
+        if low == high {
+            return true;
+        }
         match self.rule {
             Rule::Block { .. } => self.coordinate(low) == self.coordinate(high),
             Rule::Cyclic { .. } => false,

@@ -261,8 +261,8 @@ impl Map {
     }
 
     /// Whether a locale owns all indices between two, which have the least and the greatest number of each dimension. It looks at
-    /// the two alone: where dimensions are dealt out by blocks or not at all it answers exactly, by the block-cyclic rule it answers yes
-    /// where the two lie in one block, and else it may answer no of a locale that owns them.
+    /// the two alone: of dimensions that are dealt out by blocks or not at all, or in which the two have one number, it answers exactly, and
+    /// by the block-cyclic rule yes where the two lie in one block. Else it may answer no of a locale that owns them.
     pub fn owns_between(&self, low: Index, high: Index, locale: u32) -> bool
         ensures { IsTrue result → (t : List ℤ) → AreBetween low t high → owner self.now t ≡ locale }
     {

@@ -11,7 +11,7 @@ use Rattle.dpl_language.specs.Environment.{Content, Plain, ArrayOf, CellOf}
 use Rattle.dpl_language.specs.Names.{Text, redomained}
 use Rattle.dpl_agreement.proofs.Slots.{Sight as SlotSight, Bound as SlotBound, Mark, Name, IsFresh, Slots, SameIn, store_at, store_at-same, same_slot, other_slot, slot_of-apart}
 use Rattle.dpl_agreement.proofs.SlotDomains.{is_over_slot, is_array_over_slot, redomained_content, redomain_slots, any_over, OverNamed, OverResolves, Overs}
-use Rattle.dpl_memory.specs.Memory.{VariableKind, PlainKind, DomainKind, TupleKind, ArrayKind, Variable, Held, Memory, no_domain, no_array, is_among, held_over_if, redomained_from, redomained_in, is_some_array, element_as, array_at}
+use Rattle.dpl_memory.specs.Memory.{VariableKind, PlainKind, DomainKind, TupleKind, ArrayKind, CellKind, Variable, Held, Memory, no_domain, no_array, is_among, held_over_if, redomained_from, redomained_in, is_some_array, element_as, array_at}
 use Rattle.dpl_memory.specs.Resolved.{Bound, Sighted, Sight, IsUnusedIn, IsUnused, is_over, arrays_in, arrays_over, HasSlots, array_content, content_in}
 use Rattle.dpl_memory.proofs.Elements.{redomained-words}
 use Rattle.dpl_memory.proofs.Wholes.{IsWholeArray, AreWhole}
@@ -40,6 +40,7 @@ OverFits (PlainKind k) over = over ≡ None
 OverFits DomainKind over = over ≡ None
 OverFits TupleKind over = over ≡ None
 OverFits (ArrayKind k) over = Unit {0}
+OverFits (CellKind k) over = over ≡ None
 
 abbrev pub FitIn : List Sighted → Type 0
 FitIn [] = Unit {0}
@@ -134,6 +135,7 @@ content-over slot (PlainKind k) j over known s h e = sym (ap (is_over slot) h)
 content-over slot DomainKind j over known s h e = sym (ap (is_over slot) h)
 content-over slot TupleKind j over known s h e = sym (ap (is_over slot) h)
 content-over slot (ArrayKind k) j over known s h e = e
+content-over slot (CellKind k) j over known s h e = sym (ap (is_over slot) h)
 
 module _ (slot slots : ℕ) (told : ℕ → Told) (s : Memory) (domain : (told slot).kind ≡ DomainKind) where
   any_over-names : (bs : List Sighted) (fs : Sight) (g : SlotSight) → IsToldIn told slots bs → FitIn bs → OverShapedIn told fs bs
@@ -187,7 +189,7 @@ module _ (x : Variable) (rs : List TextRange) (slots : ℕ) (s : Memory) (h : Ha
   by_domain = record s { domains = set s.domains x.slot rs; arrays = redomained_from 0 x.along rs s.arrays }
 
   new-domain : new ≡ by_domain
-  new-domain = ap (λ k. redomained_in (record { kind = k; slot = x.slot; along = x.along }) rs s) domain
+  new-domain = ap (λ k. redomained_in (record { kind = k; slot = x.slot; along = x.along; cells = x.cells }) rs s) domain
 
   pub redomained-slots : HasSlots slots new
   redomained-slots = subst (HasSlots slots) (sym new-domain) (record {
@@ -216,6 +218,7 @@ module _ (x : Variable) (rs : List TextRange) (slots : ℕ) (s : Memory) (h : Ha
       held-redomained x.slot k over rs (array_at j s) (is_among j x.along) (whole j) e
       ∙ ap (λ n. array_content over k (held_over_if (is_among n x.along) rs (array_at j s))) from_zero
       ∙ ap (array_content over k) (sym (get_or-redomained 0 x.along rs s.arrays j no_array (subst (λ n. j < n) (sym h.arrays) within)))
+  content-other (CellKind k) j over ne within e = refl
 
   module _ (told : ℕ → Told) where
     name-redomained : (b : Sighted) → is_over_slot x.slot (told b.slot).over ≡ is_over x.slot b.over → b.slot < slots → (told x.slot).kind ≡ DomainKind → x.slot < slots → is_among b.slot x.along ≡ is_over x.slot b.over

@@ -9,6 +9,7 @@ pub mod Shapes
 pub mod Domains
 pub mod Wholes
 pub mod Roots
+pub mod Cells
 pub mod MemoryAgrees
 -- How a program is seen to fit, and samples.
 pub mod Suiting
@@ -16,3 +17,4 @@ pub mod Fitting
 pub mod ScalarsWorked
 pub mod Worked
 pub mod Pieces
+pub mod CellsWorked

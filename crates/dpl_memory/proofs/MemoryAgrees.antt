@@ -1,27 +1,33 @@
--- A resolved data-parallel program runs in a memory as it runs by names.
+-- A resolved program runs in a memory as it runs by names.
 -- Each step of the one is a step of the other where a name has the kind and the slot of its innermost declaration and holds its kind.
-use Rattle.std.proofs.Common.{◌≡◌, ◌≢◌, ℕ, ◌<◌, ◌++◌, pos, true, List, [], ◌∷◌, refl, sym, ap, ◌∙◌, subst, Some, None, Option, map}
-use Rattle.std.specs.Prelude.{All, Ok, option_map, bytes_eq, if◌then◌else◌}
+use Rattle.std.proofs.Common.{◌≡◌, ◌≢◌, ℕ, ◌<◌, ℤ, ◌++◌, pos, true, List, [], ◌∷◌, refl, sym, ap, ◌∙◌, subst, Some, None, Option, map, length, drop}
+use Rattle.std.specs.Prelude.{All, Ok, unwrap_or, option_map, bytes_eq, if◌then◌else◌, get_or, set}
 use Rattle.std.specs.Option.{option_or}
 use Rattle.std.proofs.lemmas.Slice.Eq.{bytes_eq-Decides}
-use Rattle.std.proofs.lemmas.List.{get_or-set_other, length-set, length-replicate, map-append, append-nil, append_assoc}
+use Rattle.std.proofs.lemmas.List.{get_or-set_same, get_or-set_other, length-set, length-replicate, map-append, append-nil, append_assoc}
 use Rattle.std.proofs.lemmas.List.Elements.{All-weaker}
+use Rattle.dpl_history.specs.declared.cell.CellState.{CellState}
+use Rattle.dpl_history.specs.declared.cell.CellState.TheVariants.{Empty}
+use Rattle.dpl_history.specs.declared.cell.CellOp.{CellOp}
+use Rattle.dpl_history.specs.declared.cell.Reply.{Reply}
 use Rattle.dpl_history.specs.declared.history.Event.{Event}
+use Rattle.dpl_history.specs.Cells.{effect}
+use Rattle.dpl_history.specs.Histories.{after}
 use Rattle.dpl_sets.specs.TextRanges.{TextRange}
 use Rattle.dpl_language.specs.Tree.{Op, Kind, Assign, Set, SetAdd, SetSubtract, SetMultiply, SetDivide, SetRemainder, SetReduce, ItemTree, Stmts, ProgramTree}
-use Rattle.dpl_language.specs.Values.{Value, Int, Range, Domain, Tuple, Index, index_of, ranges_in, array_domain, is_domain, is_distributed, kept_number}
+use Rattle.dpl_language.specs.Values.{Value, Int, Range, Locale, Domain, Tuple, Index, index_of, ranges_in, array_domain, is_domain, is_distributed, kept_number}
 use Rattle.dpl_language.specs.Distributions.{Root, no_root}
 use Rattle.dpl_language.specs.Arithmetic.{assigned}
 use Rattle.dpl_language.specs.Outcome.{Deeds, no_deeds, Outcome, Done, Stop, Waits}
-use Rattle.dpl_language.specs.Environment.{Content, Plain, ArrayOf, CellOf, Limits}
+use Rattle.dpl_language.specs.Environment.{Content, Plain, ArrayOf, CellOf, Replied, Unanswered, Limits}
 use Rattle.dpl_language.specs.Phrases.{item_read}
 use Rattle.dpl_language.specs.Expressions.{item_of}
 use Rattle.dpl_language.specs.Statements.{exec_all}
-use Rattle.dpl_language.specs.Names.{Text, Opened, Declared, Store, State, paired, innermost as root_of_name, look_up, change_in, element_at, with_element, without_innermost, value_in as name_value, update_in, element_in, put_in, redomain_in, arrays_over as named_arrays, by_name}
+use Rattle.dpl_language.specs.Names.{Text, Opened, Declared, Store, State, paired, innermost as root_of_name, look_up, change_in, element_at, with_element, without_innermost, value_in as name_value, update_in, element_in, put_in, set_cell, state_in, store_cells, cell_number, with_cells as with_cells_named, effect_on, call_in, redomain_in, arrays_over as named_arrays, by_name}
 use Rattle.dpl_language.specs.Program.{first_state, meaning, top_level, own_entry, own_frame, left, written}
 use Rattle.dpl_agreement.specs.Renamed.{renamed_content, renamed_item, renamed_intents, renamed_stmts, renamed_program}
-use Rattle.dpl_agreement.specs.Scopes.{Form, PlainForm, ArrayForm, form_of, IsLawful, after_all, fits_all}
-use Rattle.dpl_agreement.specs.Agreement.{MayRead, MayBe, WasDomain, Simulates, EndsAlike}
+use Rattle.dpl_agreement.specs.Scopes.{Form, PlainForm, ArrayForm, CellForm, form_of, IsLawful, after_all, fits_all}
+use Rattle.dpl_agreement.specs.Agreement.{AnswersAlike, MayRead, MayBe, WasDomain, Simulates, EndsAlike}
 use Rattle.dpl_agreement.proofs.Slots.{Bound as SlotBound, Name, IsFresh, set_slot, spelled, store_at, store_at-set, slot_of, slot_of-apart, look_up-slot, change_in-slot, declared-slot, without_innermost-store_at}
 use Rattle.dpl_agreement.proofs.SlotRoots.{Roots, set_root, roots_at, root-slot, declared-root, deal-slot, left-roots}
 use Rattle.dpl_agreement.proofs.SlotDomains.{OverNamed, OverResolves, Overs, Overs-declare, Overs-without_frame, redomain_in-slots, arrays_over-slots}
@@ -31,16 +37,18 @@ use Rattle.dpl_agreement.proofs.Through.{through, item_of-through_at, item_of-th
 use Rattle.dpl_agreement.proofs.ProgramsAlike.{run_from}
 use Rattle.dpl_agreement.proofs.Agreement.{exec_all-alike}
 use Rattle.dpl_sound.specs.Typed.{AreRanked}
-use Rattle.dpl_words.specs.Words.{IntLeaf, TruthLeaf, RangeLeaf, no_range, is_true, intent_at, set_at, given_as}
+use Rattle.dpl_words.specs.Words.{IntLeaf, TruthLeaf, RangeLeaf, LocaleLeaf, no_range, is_true, intent_at, set_at, given_as}
 use Rattle.dpl_words.proofs.OfKind.{given-kind}
-use Rattle.dpl_memory.specs.Memory.{VariableKind, PlainKind, DomainKind, TupleKind, ArrayKind, Held, whole_held, Memory, is_among, redomained_from, no_domain, no_tuple, no_array, value_in, with_value_in, array_at, held_with, element_in as element_in_memory, with_element_in, declared_array, root_in, with_root, undealt, renewed, anew, element_as, intents_by_slot, redomained_in, is_some_array, intended, given_in, in_memory}
-use Rattle.dpl_memory.specs.Resolved.{Bound, Sighted, Sight, known_in, innermost, text_of, variable_of, written_over, if_domain, domain_among, over_of, sighted, arrays_over, names_in_order, left_in, entry_in, declared_in, frame_in, own_store, store_in, content_in, IsUnused, AreUnused, bind, without_frame, Seen, first_seen, MaySpan, IsOf, IsWhole, HasShape, MayHold, Shape, no_shape, IsShaped, HasNoArray, GivesOnce, SuitsKind, ArraysResolve, IsNew, OverResolves as OverIsFound, Holds, kind_takes, KindCombines, IntentResolves, Resolves, Declares, IsGivenAs, Start, resolving, first_memory, HasSlots, StandsFor}
-use Rattle.dpl_memory.proofs.Roots.{roots-set_in, roots-element, roots-array, roots-redomained, content_in-root, slots-root, root_in-other, root_in-same, content_in-undealt, slots-undealt, words-undealt, value_in-undealt, whole-undealt, root_in-undealt_here, root_in-undealt_other, roots_at-each, set_root-each, roots_at-unused}
+use Rattle.dpl_memory.specs.Memory.{VariableKind, PlainKind, DomainKind, TupleKind, ArrayKind, CellKind, Held, whole_held, Memory, is_among, redomained_from, no_domain, no_tuple, no_array, value_in, with_value_in, cell_at, with_cell, cells_at, with_cells, settled_in, with_replies, effect_in, called_by, array_at, held_with, Coming, element_in as element_in_memory, with_element_in, declared_array, root_in, with_root, undealt, renewed, anew, element_as, intents_by_slot, redomained_in, is_some_array, intended, given_in, in_memory}
+use Rattle.dpl_memory.specs.Resolved.{Bound, Sighted, Sight, known_in, innermost, text_of, variable_of, written_over, if_domain, domain_among, over_of, sighted, arrays_over, names_in_order, left_in, entry_in, declared_in, frame_in, own_store, store_in, content_in, IsUnused, AreUnused, bind, without_frame, Seen, first_seen, cells_in, before, HasCells, AreKnown, CallResolves, IsCellOf, MaySpan, IsOf, IsWhole, HasShape, MayHold, Shape, no_shape, IsShaped, HasNoArray, GivesOnce, SuitsKind, ArraysResolve, IsNew, OverResolves as OverIsFound, Holds, kind_takes, KindCombines, IntentResolves, Resolves, MayDeclare, IsGivenAs, Start, resolving, first_memory, HasSlots, AreToCome, StandsFor}
+use Rattle.dpl_memory.proofs.Roots.{IsAsFar, as_far, far-set_in, far-element, far-array, far-redomained, far-undealt, roots-set_in, roots-element, roots-array, roots-redomained, content_in-root, slots-root, root_in-other, root_in-same, content_in-undealt, slots-undealt, words-undealt, value_in-undealt, whole-undealt, root_in-undealt_here, root_in-undealt_other, roots_at-each, set_root-each, roots_at-unused}
+use Rattle.dpl_agreement.proofs.SlotCells.{state_of, with_state, cells_of as slots_cells, with_states, state_in-spelled, set_cell-spelled, store_cells-slots, cell_number-slots, with_cells-slots}
+use Rattle.dpl_memory.proofs.Cells.{cell_slots, cell_slots-in_slots, cells-slots, number-slots, cell-put, cells-other, cells-value, cell-shape, cells-slotted, length-with_cells, replaced, are_within}
 use Rattle.dpl_memory.proofs.Elements.{element_at-words, with_element-words, elements-kept, assigned-element}
-use Rattle.dpl_memory.proofs.OfKind.{content_in-set_same, content_in-set_other, content_in-array_same, content_in-array_other, slots-set, slots-array, intents-set_in, sets-set_in, value_in-array, value_in-plain, value_in-domain, assigned-of}
+use Rattle.dpl_memory.proofs.OfKind.{content_in-set_same, content_in-set_other, content_in-array_same, content_in-array_other, content_in-moved, slots-moved, slots-set, slots-array, intents-set_in, sets-set_in, value_in-array, value_in-plain, value_in-domain, assigned-of}
 use Rattle.dpl_memory.proofs.InSight.{placed, placed_over, placed_name, in_slots, IsOpen, IsOpen-bind, AreApart, AreApart-bind, AreApart-without_frame, IsApart-in_slots, slot_of-innermost, IsFresh-in_slots, in_slots-bind, in_slots-without_frame, without_frame-bind, Told, told_of, texts_of, IsTold, Finds, innermost-told, with_told, with_told_here, with_told_other, IsTold-after, IsTold-bind, IsTold-without_frame, contents, over_text-placed, store_at-contents, store_at-each, store_at-intend, set_slot-each, Overs-contents, Overs-each}
 use Rattle.dpl_memory.proofs.OverShapes.{KnownBy, OverKnown, OversShaped, over-after, OversShaped-after, OversShaped-bind, OversShaped-without_frame, arrays-shaped}
-use Rattle.dpl_memory.proofs.Shapes.{HasToldShape, IsShapedBy, told-shaped, shaped-told, shaped-changed, shaped-declared, shaped-set, assigned-shaped, shaped-element, shaped-array, shaped-redomained, shaped-intended, shaped-root, given-shaped}
+use Rattle.dpl_memory.proofs.Shapes.{HasToldShape, IsShapedBy, told-shaped, shaped-told, shaped-changed, shaped-declared, shaped-set, assigned-shaped, shaped-element, shaped-array, shaped-redomained, shaped-intended, shaped-moved, shaped-root, given-shaped}
 use Rattle.dpl_memory.proofs.Wholes.{AreWhole, whole-set, whole-element, whole-declared, whole-redomained, whole-first}
 use Rattle.dpl_memory.proofs.Domains.{OverNamed-texts, Overs-texts, OverFits, FitIn, Fit, Tells, arrays_over-tells, any_over-told, redomained-slots, redomained-intents, store-redomained}
 
@@ -72,11 +80,34 @@ pub record Kept (start : Start) (g : Seen) (s1 : State) (s2 : Memory) : Type 0 w
   pub slots : HasSlots start.slots s2
   pub intents : s1.intents ≡ renamed_intents text_of g.intents
   pub intents_by_slots : s2.words.intents ≡ intents_by_slot (renamed_intents variable_of g.intents)
-  pub here : s1.here ≡ pos 0
+  pub cells : length s2.cells ≡ start.cells
+  pub here : s1.here ≡ s2.here
+  pub replies : s1.replies ≡ s2.coming.replies
+  pub histories : AreToCome start.histories s1.histories s2.coming.histories
   pub texts : s1.sets ≡ start.texts
   pub words : s2.words.sets ≡ start.words
   pub shaped : IsShapedBy told s2
   pub whole : AreWhole s2
+
+-- the histories that are to come stay
+still_to_come : (o : Option (List (List Event))) (hs : List (List Event)) (s u : Memory) → u.coming ≡ s.coming → AreToCome o hs s.coming.histories → AreToCome o hs u.coming.histories
+still_to_come o hs s u e h = subst (λ (c : Coming). AreToCome o hs c.histories) (sym e) h
+
+to_come-same : (o : Option (List (List Event))) (hs is : List (List Event)) → AreKnown o → AreToCome o hs is → hs ≡ is
+to_come-same None hs is known h = absurd known
+to_come-same (Some first) hs is known h = h
+
+fewer-to_come : (o : Option (List (List Event))) (hs is : List (List Event)) → AreToCome o hs is → AreToCome o (drop 1 hs) (drop 1 is)
+fewer-to_come None hs is h = tt
+fewer-to_come (Some first) hs is h = ap (drop 1) h
+
+-- a cell has no root
+cell-rootless : (kind : VariableKind) (k : Kind) (slot : ℕ) (roots : List Root) → IsCellOf kind k → root_in kind slot roots ≡ no_root
+cell-rootless (PlainKind l) k slot roots is = refl
+cell-rootless DomainKind k slot roots is = absurd is
+cell-rootless TupleKind k slot roots is = refl
+cell-rootless (ArrayKind l) k slot roots is = absurd is
+cell-rootless (CellKind l) k slot roots is = refl
 
 resolving-lawful : (start : Start) → IsLawful (resolving start)
 resolving-lawful start = record {
@@ -103,12 +134,14 @@ fits-none (PlainKind k) = refl
 fits-none DomainKind = refl
 fits-none TupleKind = refl
 fits-none (ArrayKind k) = tt
+fits-none (CellKind k) = refl
 
 fits-whole : (k : VariableKind) (over : Option Bound) → IsWhole k → OverFits k over
 fits-whole (PlainKind k) over w = absurd w
 fits-whole DomainKind over w = absurd w
 fits-whole TupleKind over w = absurd w
 fits-whole (ArrayKind k) over w = tt
+fits-whole (CellKind k) over w = absurd w
 
 -- ONE CONTENT
 update_in-spelled : (op : Assign) (x : Bound) (g : Seen) (a b : Option Op) (v : Value) (c : Content SlotBound) → a ≡ paired x.text (renamed_intents text_of g.intents)
@@ -147,6 +180,7 @@ updated-content DomainKind slot over op b v slots s p h within =
 updated-content TupleKind slot over op b v slots s p h within =
     sym (content_in-set_same TupleKind slot over (assigned op b (value_in TupleKind slot s) v) slots s (p (λ e. e)) (λ e. e) h within)
 updated-content (ArrayKind k) slot over op b v slots s p h within = refl
+updated-content (CellKind k) slot over op b v slots s p h within = refl
 
 -- an element put: where the variable is no whole array nothing changes
 put-content : (k : VariableKind) (slot : ℕ) (over : Option SlotBound) (t : Index) (v : Value) (slots : ℕ) (s : Memory) → IsOf k v → AreWhole s → HasSlots slots s → slot < slots
@@ -158,30 +192,35 @@ put-content (ArrayKind k) slot over t v slots s p whole h within =
     ap (λ is. ArrayOf over k (array_at slot s).ranges (with_element t v is (map (element_as k) (array_at slot s).words))) (sym (whole slot))
     ∙ ap (λ vs. ArrayOf over k (array_at slot s).ranges vs) (with_element-words k t v (array_at slot s).keys (array_at slot s).words p)
     ∙ sym (content_in-array_same k slot over (held_with t (kept_number v) (array_at slot s)) slots s h within)
+put-content (CellKind k) slot over t v slots s p whole h within = refl
 
 put-other : (j k : VariableKind) (i slot : ℕ) (over : Option SlotBound) (t : Index) (v : Value) (s : Memory) → i ≢ slot → content_in j i over (with_element_in k slot t v s) ≡ content_in j i over s
 put-other j (PlainKind k) i slot over t v s ne = refl
 put-other j DomainKind i slot over t v s ne = refl
 put-other j TupleKind i slot over t v s ne = refl
 put-other j (ArrayKind k) i slot over t v s ne = content_in-array_other j i slot over (held_with t (kept_number v) (array_at slot s)) s ne
+put-other j (CellKind k) i slot over t v s ne = refl
 
 slots-element : (k : VariableKind) (slot : ℕ) (t : Index) (v : Value) (slots : ℕ) (s : Memory) → HasSlots slots s → HasSlots slots (with_element_in k slot t v s)
 slots-element (PlainKind k) slot t v slots s h = h
 slots-element DomainKind slot t v slots s h = h
 slots-element TupleKind slot t v slots s h = h
 slots-element (ArrayKind k) slot t v slots s h = slots-array slot (held_with t (kept_number v) (array_at slot s)) slots s h
+slots-element (CellKind k) slot t v slots s h = h
 
 words-element : (k : VariableKind) (slot : ℕ) (t : Index) (v : Value) (s : Memory) → (with_element_in k slot t v s).words ≡ s.words
 words-element (PlainKind k) slot t v s = refl
 words-element DomainKind slot t v s = refl
 words-element TupleKind slot t v s = refl
 words-element (ArrayKind k) slot t v s = refl
+words-element (CellKind k) slot t v s = refl
 
 name_value-spelled : (k : VariableKind) (slot : ℕ) (over : Option SlotBound) (s : Memory) → name_value (spelled (content_in k slot over s)) ≡ value_in k slot s
 name_value-spelled (PlainKind k) slot over s = refl
 name_value-spelled DomainKind slot over s = refl
 name_value-spelled TupleKind slot over s = refl
 name_value-spelled (ArrayKind k) slot over s = refl
+name_value-spelled (CellKind k) slot over s = refl
 
 element-spelled : (k : VariableKind) (slot : ℕ) (over : Option SlotBound) (t : Index) (s : Memory) → AreWhole s → element_in t (spelled (content_in k slot over s)) ≡ element_in_memory k slot t s
 element-spelled (PlainKind k) slot over t s whole = refl
@@ -189,6 +228,7 @@ element-spelled DomainKind slot over t s whole = refl
 element-spelled TupleKind slot over t s whole = refl
 element-spelled (ArrayKind k) slot over t s whole =
     ap (λ is. element_at t is (map (element_as k) (array_at slot s).words)) (sym (whole slot)) ∙ element_at-words k t (array_at slot s).keys (array_at slot s).words
+element-spelled (CellKind k) slot over t s whole = refl
 
 -- AN ARRAY DECLARED
 abbrev made : List TextRange → List Value → Held
@@ -201,33 +241,39 @@ declared-content DomainKind shape slot over k rs vs slots s p q h within = absur
 declared-content TupleKind shape slot over k rs vs slots s p q h within = absurd p
 declared-content (ArrayKind l) shape slot over k rs vs slots s p q h within =
     content_in-array_same l slot over (made rs vs) slots s h within ∙ ap (λ vs. ArrayOf over l rs vs) (elements-kept l vs q) ∙ ap (λ k. ArrayOf over k rs vs) (sym p.0)
+declared-content (CellKind l) shape slot over k rs vs slots s p q h within = absurd p
 
 declared-other : (j kind : VariableKind) (i slot : ℕ) (over : Option SlotBound) (a : Held) (s : Memory) → i ≢ slot → content_in j i over (declared_array kind slot a s) ≡ content_in j i over s
 declared-other j (PlainKind l) i slot over a s ne = refl
 declared-other j DomainKind i slot over a s ne = refl
 declared-other j TupleKind i slot over a s ne = refl
 declared-other j (ArrayKind l) i slot over a s ne = content_in-array_other j i slot over a s ne
+declared-other j (CellKind l) i slot over a s ne = refl
 
 slots-declared : (kind : VariableKind) (slot : ℕ) (a : Held) (slots : ℕ) (s : Memory) → HasSlots slots s → HasSlots slots (declared_array kind slot a s)
 slots-declared (PlainKind l) slot a slots s h = h
 slots-declared DomainKind slot a slots s h = h
 slots-declared TupleKind slot a slots s h = h
 slots-declared (ArrayKind l) slot a slots s h = slots-array slot a slots s h
+slots-declared (CellKind l) slot a slots s h = h
 
 words-declared : (kind : VariableKind) (slot : ℕ) (a : Held) (s : Memory) → (declared_array kind slot a s).words ≡ s.words
 words-declared (PlainKind l) slot a s = refl
 words-declared DomainKind slot a s = refl
 words-declared TupleKind slot a s = refl
 words-declared (ArrayKind l) slot a s = refl
+words-declared (CellKind l) slot a s = refl
 
 -- SLOTS THAT BEGIN ANEW
 content_in-renewed_other : {N : Type 0} (k : VariableKind) (j slot : ℕ) (over : Option N) (s : Memory) → j ≢ slot → content_in k j over (renewed slot s) ≡ content_in k j over s
 content_in-renewed_other (PlainKind IntLeaf) j slot over s ne = ap (λ n. Plain (Int n)) (get_or-set_other s.words.numbers slot j (pos 0) (pos 0) ne)
+content_in-renewed_other (PlainKind LocaleLeaf) j slot over s ne = ap (λ n. Plain (Locale n)) (get_or-set_other s.words.numbers slot j (pos 0) (pos 0) ne)
 content_in-renewed_other (PlainKind TruthLeaf) j slot over s ne = ap (λ n. Plain (is_true n)) (get_or-set_other s.words.numbers slot j (pos 0) (pos 0) ne)
 content_in-renewed_other (PlainKind RangeLeaf) j slot over s ne = ap (λ r. Plain (Range r)) (get_or-set_other s.words.ranges slot j no_range no_range ne)
 content_in-renewed_other DomainKind j slot over s ne = refl
 content_in-renewed_other TupleKind j slot over s ne = ap (λ t. Plain (Tuple t)) (get_or-set_other s.tuples slot j no_tuple no_tuple ne)
 content_in-renewed_other (ArrayKind k) j slot over s ne = refl
+content_in-renewed_other (CellKind k) j slot over s ne = refl
 
 slots-renewed : (slot slots : ℕ) (s : Memory) → HasSlots slots s → HasSlots slots (renewed slot s)
 slots-renewed slot slots s h = record {
@@ -250,6 +296,7 @@ changed-held (PlainKind k) shape op slot t s old w e takes p = cc
 changed-held DomainKind shape op slot t s old w e takes p = cc
 changed-held TupleKind shape op slot t s old w e takes p = cc
 changed-held (ArrayKind k) shape op slot t s old w e takes p = (assigned-element k op old w takes p, λ n. absurd (n tt))
+changed-held (CellKind k) shape op slot t s old w e takes p = cc
 
 -- the value of a right side that is evaluated once, of no whole array
 once-held : (k : VariableKind) (shape : Shape) (item : ItemTree Bound) (g : Seen) → (IsWhole k → ⊥) → SuitsKind k shape item g → GivesOnce k shape item g
@@ -257,6 +304,7 @@ once-held (PlainKind k) shape item g n f = f
 once-held DomainKind shape item g n f = f
 once-held TupleKind shape item g n f = f
 once-held (ArrayKind k) shape item g n f = absurd (n tt)
+once-held (CellKind k) shape item g n f = f
 
 -- of each name, where there is no whole array in it
 scalar-held : (k : VariableKind) (shape : Shape) (item : ItemTree Bound) (g : Seen) → HasNoArray item → SuitsKind k shape item g → GivesOnce k shape item g
@@ -264,6 +312,7 @@ scalar-held (PlainKind k) shape item g n f = f
 scalar-held DomainKind shape item g n f = f
 scalar-held TupleKind shape item g n f = f
 scalar-held (ArrayKind k) shape item g n f = f.0 n
+scalar-held (CellKind k) shape item g n f = f
 
 -- the value of a turn, of whole arrays
 turn-held : (limits : Limits) (k : VariableKind) (shape : Shape) (item : ItemTree Bound) (g : Seen) (s : Memory) (t : Index) (v : Value) → IsShaped g s → IsWhole k → SuitsKind k shape item g
@@ -272,6 +321,7 @@ turn-held limits (PlainKind k) shape item g s t v shaped whole f e = absurd whol
 turn-held limits DomainKind shape item g s t v shaped whole f e = absurd whole
 turn-held limits TupleKind shape item g s t v shaped whole f e = absurd whole
 turn-held limits (ArrayKind k) shape item g s t v shaped whole f e = (f.1 limits s shaped t v e, λ n. absurd (n tt))
+turn-held limits (CellKind k) shape item g s t v shaped whole f e = absurd whole
 
 -- what the command line gives
 given-alike : (k : VariableKind) (x : Bound) (start : Start) (s : Memory) → s.words.sets ≡ start.words → IsGivenAs k x start → paired x.text start.texts ≡ given_in k x.variable.slot s
@@ -279,12 +329,14 @@ given-alike (PlainKind k) x start s e g = g ∙ ap (λ ws. option_map (given_as 
 given-alike DomainKind x start s e g = absurd g
 given-alike TupleKind x start s e g = absurd g
 given-alike (ArrayKind k) x start s e g = absurd g
+given-alike (CellKind k) x start s e g = absurd g
 
 given-held : (k : VariableKind) (shape : Shape) (slot : ℕ) (s : Memory) (v : Value) → given_in k slot s ≡ Some v → MayHold k shape v
 given-held (PlainKind k) shape slot s v e = (given-kind k (set_at slot s.words.sets) v e, λ n. given-shaped k shape (set_at slot s.words.sets) v e)
 given-held DomainKind shape slot s v e = cc
 given-held TupleKind shape slot s v e = cc
 given-held (ArrayKind k) shape slot s v e = cc
+given-held (CellKind k) shape slot s v e = cc
 
 -- the arrays that stand with a domain are those over it
 arrays-known : (k : VariableKind) (x : Bound) (g : Seen) → k ≡ DomainKind → ArraysResolve k x g → x.variable.along ≡ arrays_over x.variable.slot g.frames
@@ -292,6 +344,7 @@ arrays-known (PlainKind k) x g e a = cc
 arrays-known DomainKind x g e a = a
 arrays-known TupleKind x g e a = cc
 arrays-known (ArrayKind k) x g e a = cc
+arrays-known (CellKind k) x g e a = cc
 
 top_level-own : (t : Store) → own_frame (top_level t) ≡ top_level (own_store t)
 top_level-own [] = refl
@@ -339,8 +392,8 @@ module _ (start : Start) where
       → ((over : Option SlotBound) → u (content_in x.variable.kind x.variable.slot over s2) ≡ content_in x.variable.kind x.variable.slot over new)
       → ((k : VariableKind) (j : ℕ) (over : Option SlotBound) → j ≢ x.variable.slot → content_in k j over new ≡ content_in k j over s2)
       → HasSlots start.slots new → new.words.intents ≡ s2.words.intents → new.words.sets ≡ s2.words.sets → HasShape x.variable.kind x.shape (value_in x.variable.kind x.variable.slot new)
-      → AreWhole new → new.roots ≡ s2.roots → Kept start g (record s1 { store = change_in x.text a s1.store }) new
-  changed_alike x a u new g s1 s2 r f p here other h i w shape whole same =
+      → AreWhole new → new.roots ≡ s2.roots → IsAsFar new s2 → Kept start g (record s1 { store = change_in x.text a s1.store }) new
+  changed_alike x a u new g s1 s2 r f p here other h i w shape whole same far =
       let slot = x.variable.slot in
       let over = (r.told slot).over in
       let found = finds x g s1 s2 r f in
@@ -364,7 +417,10 @@ module _ (start : Start) where
         slots = h;
         intents = r.intents;
         intents_by_slots = i ∙ r.intents_by_slots;
-        here = r.here;
+        cells = far.cells ∙ r.cells;
+        here = r.here ∙ sym far.here;
+        replies = r.replies ∙ ap (λ (c : Coming). c.replies) (sym far.coming);
+        histories = still_to_come start.histories s1.histories s2 new far.coming r.histories;
         texts = r.texts;
         words = w ∙ r.words;
         shaped = shaped-changed r.told slot s2 new r.shaped other (shaped-told x.variable.kind x.shape (r.told slot) slot new found.kind found.shape shape);
@@ -391,6 +447,7 @@ module _ (start : Start) where
       (assigned-shaped kind x.shape op intent (value_in kind slot s2) v t (λ e. subst (λ is. KindCombines kind (intent_at slot is)) (sym r.intents_by_slots) (intent-combines op x g i e)) p.1)
       (λ w. shaped_sight g s1 s2 r x f) r.slots (finds x g s1 s2 r f).within)
       (whole-set kind slot (assigned op intent (value_in kind slot s2) v) s2 r.whole) (roots-set_in kind slot (assigned op intent (value_in kind slot s2) v) s2)
+      (far-set_in kind slot (assigned op intent (value_in kind slot s2) v) s2)
 
   put_alike : (x : Bound) (t : Index) (v : Value) (g : Seen) (s1 : State) (s2 : Memory) → Kept start g s1 s2 → Resolves x g → MayHold x.variable.kind x.shape v
       → Kept start g (by_name.put_element x.text t v s1) (in_memory.put_element x.variable t v s2)
@@ -404,7 +461,131 @@ module _ (start : Start) where
       (ap (λ w. w.intents) (words-element kind slot t v s2))
       (ap (λ w. w.sets) (words-element kind slot t v s2))
       (shaped-element kind x.shape slot t v start.slots s2 r.slots (finds x g s1 s2 r f).within (shaped_sight g s1 s2 r x f))
-      (whole-element kind slot t v s2 r.whole) (roots-element kind slot t v s2)
+      (whole-element kind slot t v s2 r.whole) (roots-element kind slot t v s2) (far-element kind slot t v s2)
+
+  -- A CELL in its slot
+  has_cell : (x : Bound) (g : Seen) (s1 : State) (s2 : Memory) → Kept start g s1 s2 → x.variable.slot < start.slots → HasCells start → x.variable.slot < length s2.cells
+  has_cell x g s1 s2 r within cells = subst (λ n. x.variable.slot < n) (sym (r.cells ∙ cells)) within
+
+  put_cell_alike : (x : Bound) (k : Kind) (c : CellState) (g : Seen) (s1 : State) (s2 : Memory) → Kept start g s1 s2 → Resolves x g → x.variable.kind ≡ CellKind k → HasCells start
+      → Kept start g (record s1 { store = change_in x.text (set_cell (c ∷ [])) s1.store }) (with_cell x.variable.slot c s2)
+  put_cell_alike x k c g s1 s2 r f is cells =
+      let kind = x.variable.kind in
+      let slot = x.variable.slot in
+      let new = with_cell slot c s2 in
+      let within = has_cell x g s1 s2 r (finds x g s1 s2 r f).within cells in
+      changed_alike x (set_cell (c ∷ [])) (with_state (c ∷ [])) new g s1 s2 r f (set_cell-spelled (c ∷ []))
+      (λ over. subst (λ kind. with_state (c ∷ []) (content_in kind slot over s2) ≡ content_in kind slot over new) (sym is) (ap (CellOf k) (sym (get_or-set_same s2.cells slot c Empty within))))
+      (λ j i over ne. cells-other j i over (set s2.cells slot c) s2.coming s2 (get_or-set_other s2.cells slot i c Empty ne))
+      (cells-slotted start.slots (set s2.cells slot c) s2.coming s2 r.slots) refl refl
+      (subst (λ kind. HasShape kind x.shape (value_in kind slot new)) (sym is) tt) r.whole refl (record { cells = length-set s2.cells slot c; here = refl; coming = refl })
+
+  -- the cell that a name holds, and its number
+  cell_held : (x : Bound) (k : Kind) (g : Seen) (s1 : State) (s2 : Memory) → Kept start g s1 s2 → Resolves x g → x.variable.kind ≡ CellKind k → state_in (look_up x.text s1.store) ≡ cell_at x.variable.slot s2
+  cell_held x k g s1 s2 r f is =
+      ap state_in (held x g s1 s2 r f) ∙ state_in-spelled (content_in x.variable.kind x.variable.slot (r.told x.variable.slot).over s2)
+      ∙ ap (λ kind. state_of (content_in kind x.variable.slot (r.told x.variable.slot).over s2)) is
+
+  number_alike : (x : Bound) (k : Kind) (g : Seen) (s1 : State) (s2 : Memory) → Kept start g s1 s2 → Resolves x g → x.variable.kind ≡ CellKind k → x.variable.cells ≡ before x.variable.slot (cells_in g.frames)
+      → length x.variable.cells ≡ cell_number x.text s1.store
+  number_alike x k g s1 s2 r f is along =
+      ap length along ∙ ap (λ js. length (before x.variable.slot js)) (sym (cell_slots-in_slots r.told start.slots g.frames r.is_told))
+      ∙ sym (number-slots r.told s2 x.variable.slot k ((finds x g s1 s2 r f).kind ∙ is) x.text (in_slots g.frames) (IsApart-in_slots g.frames r.apart) (placed_at x g f))
+      ∙ sym (ap (cell_number x.text) r.store ∙ cell_number-slots (placed x) (contents r.told s2) (in_slots g.frames) (IsApart-in_slots g.frames r.apart) (placed_at x g f))
+
+  -- REPLIES that are given
+  given_alike : (rs : List Reply) (g : Seen) (s1 : State) (s2 : Memory) → Kept start g s1 s2 → Kept start g (record s1 { replies = Some rs }) (with_replies rs s2)
+  given_alike rs g s1 s2 r = record {
+    told = r.told;
+    is_told = r.is_told;
+    fit = r.fit;
+    overs_shaped = r.overs_shaped;
+    opened = r.opened;
+    apart = r.apart;
+    overs = Overs-contents (texts_of r.told) r.told s2 (with_replies rs s2) (in_slots g.frames) r.overs;
+    store =
+        r.store ∙ store_at-each (contents r.told s2) (contents r.told (with_replies rs s2))
+        (λ j. content_in-moved (r.told j).kind j (r.told j).over s2.here (record s2.coming { replies = Some rs }) s2) (in_slots g.frames);
+    roots = r.roots;
+    slots = slots-moved start.slots s2.here (record s2.coming { replies = Some rs }) s2 r.slots;
+    intents = r.intents;
+    intents_by_slots = r.intents_by_slots;
+    cells = r.cells;
+    here = r.here;
+    replies = refl;
+    histories = r.histories;
+    texts = r.texts;
+    words = r.words;
+    shaped = shaped-moved r.told s2.here (record s2.coming { replies = Some rs }) s2 r.shaped;
+    whole = r.whole;
+  }
+
+  -- AN OPERATION on a cell
+  call_alike : (x : Bound) (op : CellOp) (g : Seen) (s1 : State) (s2 : Memory) → Kept start g s1 s2 → CallResolves start x g → AnswersAlike (Kept start g) (by_name.call x.text op s1) (in_memory.call x.variable op s2)
+  call_alike x op g s1 s2 r f =
+      subst (λ o. AnswersAlike (Kept start g) (call_in x.text op s1 o) (in_memory.call x.variable op s2)) (sym r.replies) (by_replies s2.coming.replies)
+    where
+      n : ℕ
+      n = length x.variable.cells
+
+      number : n ≡ cell_number x.text s1.store
+      number = number_alike x f.1.0 g s1 s2 r f.0 f.1.1 f.2
+
+      by_effect : (e : Option (CellState × Reply)) → AnswersAlike (Kept start g) (effect_on x.text s1 e) (effect_in n x.variable.slot s2 e)
+      by_effect None = ap (λ n. Unanswered n) number
+      by_effect (Some a) = (with_cell x.variable.slot a.0 s2, put_cell_alike x f.1.0 a.0 g s1 s2 r f.0 f.1.1 f.3, ap (λ n. Replied n a.1 (with_cell x.variable.slot a.0 s2)) number)
+
+      by_replies : (o : Option (List Reply)) → AnswersAlike (Kept start g) (call_in x.text op s1 o) (called_by n x.variable.slot op s2 o)
+      by_replies None =
+          subst (λ c. AnswersAlike (Kept start g) (effect_on x.text s1 (effect op c)) (effect_in n x.variable.slot s2 (effect op (cell_at x.variable.slot s2)))) (sym (cell_held x f.1.0 g s1 s2 r f.0 f.1.1))
+          (by_effect (effect op (cell_at x.variable.slot s2)))
+      by_replies (Some []) = ap (λ n. Unanswered n) number
+      by_replies (Some (a ∷ rs)) = (with_replies rs s2, given_alike rs g s1 s2 r, ap (λ n. Replied n a (with_replies rs s2)) number)
+
+  -- THE CELLS AT A COFORALL, and the history that it takes
+  cells_alike : (xs : List ℕ) (g : Seen) (s1 : State) (s2 : Memory) → Kept start g s1 s2 → xs ≡ cells_in g.frames → store_cells s1.store ≡ cells_at xs s2
+  cells_alike xs g s1 s2 r along =
+      ap store_cells r.store ∙ store_cells-slots (contents r.told s2) (in_slots g.frames) ∙ cells-slots r.told s2 (in_slots g.frames)
+      ∙ ap (λ js. cells_at js s2) (cell_slots-in_slots r.told start.slots g.frames r.is_told ∙ sym along)
+
+  settle_alike : (xs : List ℕ) (h : List Event) (g : Seen) (s1 : State) (s2 : Memory) → Kept start g s1 s2 → xs ≡ cells_in g.frames → HasCells start
+      → Kept start g (record s1 { store = with_cells_named (after (store_cells s1.store) h) s1.store; histories = drop 1 s1.histories }) (settled_in xs h s2)
+  settle_alike xs h g s1 s2 r along cells =
+      let cs : List CellState = after (cells_at xs s2) h in
+      let coming : Coming = record s2.coming { histories = drop 1 s2.coming.histories } in
+      let own : cell_slots r.told (in_slots g.frames) ≡ xs = cell_slots-in_slots r.told start.slots g.frames r.is_told ∙ sym along in
+      let new : Memory = record s2 { cells = with_cells xs cs s2.cells; coming = coming } in
+      record {
+        told = r.told;
+        is_told = r.is_told;
+        fit = r.fit;
+        overs_shaped = r.overs_shaped;
+        opened = r.opened;
+        apart = r.apart;
+        overs = Overs-contents (texts_of r.told) r.told s2 new (in_slots g.frames) r.overs;
+        store =
+            ap (λ ds. with_cells_named (after ds h) s1.store) (cells_alike xs g s1 s2 r along)
+            ∙ ap (with_cells_named cs) r.store
+            ∙ with_cells-slots cs (in_slots g.frames) (contents r.told s2) (IsApart-in_slots g.frames r.apart)
+            ∙ store_at-each (with_states cs (in_slots g.frames) (contents r.told s2)) (contents r.told new)
+            (λ j.
+            replaced r.told s2 s2.coming cs (in_slots g.frames) (are_within r.told start.slots s2 s2.coming (r.cells ∙ cells) g.frames r.is_told) j
+            ∙ ap (λ js. contents r.told (record s2 { cells = with_cells js cs s2.cells }) j) own
+            ∙ content_in-moved (r.told j).kind j (r.told j).over s2.here coming (record s2 { cells = with_cells xs cs s2.cells }))
+            (in_slots g.frames);
+        roots = r.roots;
+        slots = cells-slotted start.slots (with_cells xs cs s2.cells) coming s2 r.slots;
+        intents = r.intents;
+        intents_by_slots = r.intents_by_slots;
+        cells = length-with_cells xs cs s2.cells ∙ r.cells;
+        here = r.here;
+        replies = r.replies;
+        histories = fewer-to_come start.histories s1.histories s2.coming.histories r.histories;
+        texts = r.texts;
+        words = r.words;
+        shaped = λ j. subst (HasShape (r.told j).kind (r.told j).shape) (cells-value (r.told j).kind j (with_cells xs cs s2.cells) coming s2) (r.shaped j);
+        whole = r.whole;
+      }
 
   -- A DECLARATION
   -- what is told of a name that is declared
@@ -424,6 +605,7 @@ module _ (start : Start) where
       by DomainKind h = (refl, (finds y g s1 s2 r o.0).shape ∙ h refl)
       by TupleKind h = refl
       by (ArrayKind l) h = refl
+      by (CellKind l) h = refl
 
   over_shaped : (x : Bound) (form : Form Bound) (g : Seen) (s1 : State) (s2 : Memory) (r : Kept start g s1 s2) → IsUnused x.variable.slot g.frames → OverIsFound (written_over form) x.shape g
       → OverKnown (with_told x.variable.slot (told_as x form) r.told) (with_told x.variable.slot (told_as x form) r.told x.variable.slot).over (over_of form) x.shape (bind (sighted x form) g.frames)
@@ -437,10 +619,10 @@ module _ (start : Start) where
       → OverResolves (texts_of (with_told x.variable.slot (told_as x form) r.told)) c (in_slots g.frames)
       → HasSlots start.slots new → new.words.intents ≡ s2.words.intents → new.words.sets ≡ s2.words.sets → HasShape x.variable.kind x.shape (value_in x.variable.kind x.variable.slot new)
       → OverIsFound (written_over form) x.shape g → AreWhole new
-      → root_in x.variable.kind x.variable.slot new.roots ≡ no_root → ((k : VariableKind) (j : ℕ) → j ≢ x.variable.slot → root_in k j new.roots ≡ root_in k j s2.roots)
+      → root_in x.variable.kind x.variable.slot new.roots ≡ no_root → ((k : VariableKind) (j : ℕ) → j ≢ x.variable.slot → root_in k j new.roots ≡ root_in k j s2.roots) → IsAsFar new s2
       → Kept start (record g { frames = bind (sighted x form) g.frames })
       (record s1 { store = Declared (record { name = x.text; content = spelled c }) ∷ s1.store; roots = Declared (record { name = x.text; content = no_root }) ∷ s1.roots }) new
-  declared_alike x form c new g s1 s2 r n fits here other resolves h i w shape over whole none others =
+  declared_alike x form c new g s1 s2 r n fits here other resolves h i w shape over whole none others far =
       let slot = x.variable.slot in
       let told = with_told slot (told_as x form) r.told in
       let fresh : IsFresh slot (in_slots g.frames) = IsFresh-in_slots slot g.frames n.unused in
@@ -474,7 +656,10 @@ module _ (start : Start) where
         slots = h;
         intents = r.intents;
         intents_by_slots = i ∙ r.intents_by_slots;
-        here = r.here;
+        cells = far.cells ∙ r.cells;
+        here = r.here ∙ sym far.here;
+        replies = r.replies ∙ ap (λ (c : Coming). c.replies) (sym far.coming);
+        histories = still_to_come start.histories s1.histories s2 new far.coming r.histories;
         texts = r.texts;
         words = w ∙ r.words;
         shaped = shaped-declared r.told slot (told_as x form) s2 new r.shaped other shape;
@@ -511,7 +696,10 @@ module _ (start : Start) where
         slots = slots-renewed slot start.slots s2 r.slots;
         intents = r.intents;
         intents_by_slots = r.intents_by_slots;
+        cells = r.cells;
         here = r.here;
+        replies = r.replies;
+        histories = r.histories;
         texts = r.texts;
         words = r.words;
         shaped = shaped-declared r.told slot (told_of (nameless slot) None) s2 new r.shaped (λ k j over ne. content_in-renewed_other k j slot over s2 ne) tt;
@@ -530,7 +718,7 @@ module _ (start : Start) where
       OverNamed-texts (texts_of r.told) (texts_of (with_told slot t r.told)) slot (λ j ne. ap (λ (t : Told). t.text) (with_told_other j slot t r.told ne)) (Some (placed y)) (in_slots g.frames)
       (IsFresh-in_slots slot g.frames u) (placed_at y g o.0, sym (finds y g s1 s2 r o.0).text)
 
-  declare_alike : (x : Bound) (c : Content Bound) (g : Seen) (s1 : State) (s2 : Memory) → Kept start g s1 s2 → Declares start.slots x (form_of c) g → Holds x.variable.kind x.shape c
+  declare_alike : (x : Bound) (c : Content Bound) (g : Seen) (s1 : State) (s2 : Memory) → Kept start g s1 s2 → MayDeclare start x (form_of c) g → Holds x.variable.kind x.shape c
       → Kept start (record g { frames = bind (sighted x (form_of c)) g.frames }) (by_name.declare x.text (renamed_content text_of c) s1) (in_memory.declare x.variable (renamed_content variable_of c) s2)
   declare_alike x (Plain v) g s1 s2 before d p =
       let kind = x.variable.kind in
@@ -545,7 +733,7 @@ module _ (start : Start) where
       (ap (λ w. w.intents) (words-undealt kind slot s4) ∙ intents-set_in kind slot v s3) (ap (λ w. w.sets) (words-undealt kind slot s4) ∙ sets-set_in kind slot v s3)
       (subst (HasShape kind x.shape) (sym (value_in-undealt kind slot s4)) (shaped-set kind x.shape slot v start.slots s3 (λ n. p.0) p.1 (λ w. absurd (d.1 w)) r.slots d.0.within))
       tt (whole-undealt kind slot s4 (whole-set kind slot v s3 r.whole)) (root_in-undealt_here kind slot s4 start.slots slots d.0.within)
-      (λ k j ne. root_in-undealt_other kind slot s4 k j ne ∙ ap (root_in k j) (roots-set_in kind slot v s3))
+      (λ k j ne. root_in-undealt_other kind slot s4 k j ne ∙ ap (root_in k j) (roots-set_in kind slot v s3)) (far-undealt kind slot s4 s3 (far-set_in kind slot v s3))
   declare_alike x (ArrayOf over k rs vs) g s1 s2 r d p =
       let kind = x.variable.kind in
       let slot = x.variable.slot in
@@ -562,8 +750,16 @@ module _ (start : Start) where
       (ap (λ w. w.intents) (words-undealt kind slot s3 ∙ words-declared kind slot (made rs vs) s2)) (ap (λ w. w.sets) (words-undealt kind slot s3 ∙ words-declared kind slot (made rs vs) s2))
       (subst (HasShape kind x.shape) (sym (value_in-undealt kind slot s3)) (shaped-array kind x.shape slot k (made rs vs) start.slots s2 p.0 r.slots d.0.within)) d.2
       (whole-undealt kind slot s3 (whole-declared kind slot (made rs vs) s2 refl r.whole)) (root_in-undealt_here kind slot s3 start.slots slots d.0.within)
-      (λ l j ne. root_in-undealt_other kind slot s3 l j ne ∙ ap (root_in l j) (roots-array kind slot (made rs vs) s2)))
-  declare_alike x (CellOf k c) g s1 s2 r d p = absurd d
+      (λ l j ne. root_in-undealt_other kind slot s3 l j ne ∙ ap (root_in l j) (roots-array kind slot (made rs vs) s2)) (far-undealt kind slot s3 s2 (far-array kind slot (made rs vs) s2)))
+  declare_alike x (CellOf k c) g s1 s2 r d p =
+      let kind = x.variable.kind in
+      let slot = x.variable.slot in
+      let new = with_cell slot c s2 in
+      declared_alike x CellForm (CellOf k c) new g s1 s2 r d.0 (fits-none kind)
+      (cell-put kind k slot None c s2 p (has_cell x g s1 s2 r d.0.within d.2))
+      (λ j i over ne. cells-other j i over (set s2.cells slot c) s2.coming s2 (get_or-set_other s2.cells slot i c Empty ne)) tt
+      (cells-slotted start.slots (set s2.cells slot c) s2.coming s2 r.slots) refl refl (cell-shape kind k x.shape slot new p) tt r.whole
+      (cell-rootless kind k slot new.roots p) (λ j i ne. refl) (record { cells = length-set s2.cells slot c; here = refl; coming = refl })
 
   -- A DOMAIN ASSIGNED
   was_domain : (x : Bound) (g : Seen) → WasDomain (through variable_of in_memory) (Kept start) x g → x.variable.kind ≡ DomainKind
@@ -603,7 +799,10 @@ module _ (start : Start) where
     slots = redomained-slots x.variable rs start.slots s2 r.slots r.whole d;
     intents = r.intents;
     intents_by_slots = ap (λ w. w.intents) (redomained-intents x.variable rs start.slots s2 r.slots r.whole d) ∙ r.intents_by_slots;
-    here = r.here;
+    cells = (far-redomained x.variable rs s2).cells ∙ r.cells;
+    here = r.here ∙ sym (far-redomained x.variable rs s2).here;
+    replies = r.replies ∙ ap (λ (c : Coming). c.replies) (sym (far-redomained x.variable rs s2).coming);
+    histories = still_to_come start.histories s1.histories s2 (redomained_in x.variable rs s2) (far-redomained x.variable rs s2).coming r.histories;
     texts = r.texts;
     words = ap (λ w. w.sets) (redomained-intents x.variable rs start.slots s2 r.slots r.whole d) ∙ r.words;
     shaped = λ j.
@@ -649,12 +848,40 @@ module _ (start : Start) where
         slots = slots-root slot root start.slots s2 r.slots;
         intents = r.intents;
         intents_by_slots = r.intents_by_slots;
+        cells = r.cells;
         here = r.here;
+        replies = r.replies;
+        histories = r.histories;
         texts = r.texts;
         words = r.words;
         shaped = shaped-root r.told slot root s2 r.shaped;
         whole = r.whole;
       }
+
+  -- ANOTHER LOCALE
+  moved : (k : ℤ) (g : Seen) (s1 : State) (s2 : Memory) → Kept start g s1 s2 → Kept start g (by_name.move k s1) (in_memory.move k s2)
+  moved k g s1 s2 r = record {
+    told = r.told;
+    is_told = r.is_told;
+    fit = r.fit;
+    overs_shaped = r.overs_shaped;
+    opened = r.opened;
+    apart = r.apart;
+    overs = Overs-contents (texts_of r.told) r.told s2 (in_memory.move k s2) (in_slots g.frames) r.overs;
+    store = r.store ∙ store_at-each (contents r.told s2) (contents r.told (in_memory.move k s2)) (λ j. content_in-moved (r.told j).kind j (r.told j).over k s2.coming s2) (in_slots g.frames);
+    roots = r.roots;
+    slots = slots-moved start.slots k s2.coming s2 r.slots;
+    intents = r.intents;
+    intents_by_slots = r.intents_by_slots;
+    cells = r.cells;
+    here = refl;
+    replies = r.replies;
+    histories = r.histories;
+    texts = r.texts;
+    words = r.words;
+    shaped = shaped-moved r.told k s2.coming s2 r.shaped;
+    whole = r.whole;
+  }
 
   -- ALL TOGETHER
   -- a right side that is no cell read is evaluated
@@ -706,7 +933,10 @@ module _ (start : Start) where
       slots = r.slots;
       intents = r.intents;
       intents_by_slots = r.intents_by_slots;
+      cells = r.cells;
       here = r.here;
+      replies = r.replies;
+      histories = r.histories;
       texts = r.texts;
       words = r.words;
       shaped = r.shaped;
@@ -729,7 +959,10 @@ module _ (start : Start) where
       slots = r.slots;
       intents = r.intents;
       intents_by_slots = r.intents_by_slots;
+      cells = r.cells;
       here = r.here;
+      replies = r.replies;
+      histories = r.histories;
       texts = r.texts;
       words = r.words;
       shaped = r.shaped;
@@ -748,7 +981,10 @@ module _ (start : Start) where
       slots = slots-intended (intents_by_slot (renamed_intents variable_of is)) s2 r.slots;
       intents = refl;
       intents_by_slots = refl;
+      cells = r.cells;
       here = r.here;
+      replies = r.replies;
+      histories = r.histories;
       texts = r.texts;
       words = r.words;
       shaped = shaped-intended r.told (intents_by_slot (renamed_intents variable_of is)) s2 r.shaped;
@@ -767,7 +1003,10 @@ module _ (start : Start) where
       slots = slots-intended [] s2 r.slots;
       intents = ap (renamed_intents text_of) (sym f);
       intents_by_slots = ap (λ is. intents_by_slot (renamed_intents variable_of is)) (sym f);
+      cells = r.cells;
       here = r.here;
+      replies = r.replies;
+      histories = r.histories;
       texts = r.texts;
       words = r.words;
       shaped = shaped-intended r.told [] s2 r.shaped;
@@ -779,12 +1018,12 @@ module _ (start : Start) where
         let domain = was_domain x g w in
         redomain_alike x (ranges_in v) g s1 s2 r f.0 domain (arrays-known x.variable.kind x g domain f.3) (subst (λ k. HasShape k x.shape v) domain (h.1 (λ w. subst IsWhole domain w)));
     heres = λ g s1 s2 r. r.here;
-    moves = λ k g s1 s2 r m. absurd m;
-    calls = λ x op g s1 s2 r f. absurd f;
-    cells = λ x g s1 s2 r c. absurd c;
-    histories = λ x g s1 s2 r c. absurd c;
-    begins = λ x rs g s1 s2 r c. absurd c;
-    settles = λ x h g s1 s2 r c. absurd c;
+    moves = λ k g s1 s2 r m. moved k g s1 s2 r;
+    calls = λ x op g s1 s2 r f. call_alike x op g s1 s2 r f;
+    cells = λ x g s1 s2 r c. cells_alike x.variable.cells g s1 s2 r c.0;
+    histories = λ x g s1 s2 r c. ap (λ hs. get_or hs 0 []) (to_come-same start.histories s1.histories s2.coming.histories c.2 r.histories);
+    begins = λ x rs g s1 s2 r c. given_alike rs g s1 s2 r;
+    settles = λ x h g s1 s2 r c. settle_alike x.variable.cells h g s1 s2 r c.0 c.1;
   }
     where
       slots-intended : (is : List (ℕ × Op)) (s : Memory) → HasSlots start.slots s → HasSlots start.slots (intended is s)
@@ -803,7 +1042,10 @@ module _ (start : Start) where
     slots = r.slots;
     intents = r.intents;
     intents_by_slots = r.intents_by_slots;
+    cells = r.cells;
     here = r.here;
+    replies = r.replies;
+    histories = r.histories;
     texts = r.texts;
     words = r.words;
   }
@@ -813,8 +1055,8 @@ module _ (start : Start) where
   left-alike g (Stop f done) b e = sym (ap (left_in g.frames) e)
   left-alike g (Waits at c op done) b e = sym (ap (left_in g.frames) e)
 
-  first_kept : (histories : List (List Event)) → Kept start first_seen (first_state start.texts histories) (first_memory start)
-  first_kept histories = record {
+  first_kept : (histories : List (List Event)) → AreToCome start.histories histories (unwrap_or start.histories []) → Kept start first_seen (first_state start.texts histories) (first_memory start)
+  first_kept histories given = record {
     told = λ j. record { text = []; kind = PlainKind IntLeaf; shape = no_shape; over = None };
     is_told = (tt, tt);
     fit = (tt, tt);
@@ -834,7 +1076,10 @@ module _ (start : Start) where
     };
     intents = refl;
     intents_by_slots = refl;
+    cells = length-replicate start.cells Empty;
     here = refl;
+    replies = refl;
+    histories = given;
     texts = refl;
     words = refl;
     shaped = λ j. tt;
@@ -843,31 +1088,31 @@ module _ (start : Start) where
 
   -- THE THEOREM: from the first states, statements that fit end alike by names and in a memory; where they are done, the
   -- memory stands for the store.
-  pub exec_all-memory : (limits : Limits) (ts : Stmts Bound) (histories : List (List Event)) (done : Deeds) → fits_all (resolving start) ts first_seen
+  pub exec_all-memory : (limits : Limits) (ts : Stmts Bound) (histories : List (List Event)) (done : Deeds) → AreToCome start.histories histories (unwrap_or start.histories []) → fits_all (resolving start) ts first_seen
       → EndsAlike (StandsFor start (after_all (resolving start) ts first_seen)) (exec_all limits by_name (renamed_stmts text_of ts) (first_state start.texts histories) done)
       (exec_all limits in_memory (renamed_stmts variable_of ts) (first_memory start) done)
-  exec_all-memory limits ts histories done f =
+  exec_all-memory limits ts histories done given f =
       EndsAlike-weaker (Kept start (after_all (resolving start) ts first_seen)) (StandsFor start (after_all (resolving start) ts first_seen))
       (stands_for (after_all (resolving start) ts first_seen)) _ _
       (subst (EndsAlike (Kept start (after_all (resolving start) ts first_seen)) (exec_all limits by_name (renamed_stmts text_of ts) (first_state start.texts histories) done))
       (exec_all-through limits variable_of in_memory ts (first_memory start) done)
       (exec_all-alike limits text_of (resolving start) by_name (through variable_of in_memory) (Kept start) (memory_simulates limits) ts first_seen f
-      (first_state start.texts histories) (first_memory start) done (first_kept histories)))
+      (first_state start.texts histories) (first_memory start) done (first_kept histories given)))
 
   -- so a program ends in a memory as it means, and writes the same
-  pub meaning-memory : (limits : Limits) (t : ProgramTree Bound) (histories : List (List Event)) → fits_all (resolving start) t.stmts first_seen
+  pub meaning-memory : (limits : Limits) (t : ProgramTree Bound) (histories : List (List Event)) → AreToCome start.histories histories (unwrap_or start.histories []) → fits_all (resolving start) t.stmts first_seen
       → EndsAlike (StandsFor start (after_all (resolving start) t.stmts first_seen)) (meaning (renamed_program text_of t) start.texts limits histories)
       (run_from limits in_memory (renamed_program variable_of t) (first_memory start))
-  meaning-memory limits t histories f =
-      settled-alike (StandsFor start (after_all (resolving start) t.stmts first_seen)) _ _ (exec_all-memory limits t.stmts histories no_deeds f)
+  meaning-memory limits t histories given f =
+      settled-alike (StandsFor start (after_all (resolving start) t.stmts first_seen)) _ _ (exec_all-memory limits t.stmts histories no_deeds given f)
 
   -- and where it is done, it leaves the same top-level names with what stands in their slots
-  pub left-memory : (limits : Limits) (t : ProgramTree Bound) (histories : List (List Event)) → fits_all (resolving start) t.stmts first_seen
+  pub left-memory : (limits : Limits) (t : ProgramTree Bound) (histories : List (List Event)) → AreToCome start.histories histories (unwrap_or start.histories []) → fits_all (resolving start) t.stmts first_seen
       → option_map own_frame (left (meaning (renamed_program text_of t) start.texts limits histories))
       ≡ left_in (after_all (resolving start) t.stmts first_seen).frames (run_from limits in_memory (renamed_program variable_of t) (first_memory start))
-  left-memory limits t histories f = left-alike (after_all (resolving start) t.stmts first_seen) _ _ (meaning-memory limits t histories f)
+  left-memory limits t histories given f = left-alike (after_all (resolving start) t.stmts first_seen) _ _ (meaning-memory limits t histories given f)
 
-  pub written-memory : (limits : Limits) (t : ProgramTree Bound) (histories : List (List Event)) → fits_all (resolving start) t.stmts first_seen
+  pub written-memory : (limits : Limits) (t : ProgramTree Bound) (histories : List (List Event)) → AreToCome start.histories histories (unwrap_or start.histories []) → fits_all (resolving start) t.stmts first_seen
       → written (meaning (renamed_program text_of t) start.texts limits histories) ≡ written (run_from limits in_memory (renamed_program variable_of t) (first_memory start))
-  written-memory limits t histories f =
-      written-alike (StandsFor start (after_all (resolving start) t.stmts first_seen)) _ _ (meaning-memory limits t histories f)
+  written-memory limits t histories given f =
+      written-alike (StandsFor start (after_all (resolving start) t.stmts first_seen)) _ _ (meaning-memory limits t histories given f)

@@ -6,7 +6,7 @@ use Rattle.std.proofs.lemmas.Bool.Decides.{Decides-eqb}
 use Rattle.dpl_sets.specs.TextRanges.{TextRange}
 use Rattle.dpl_agreement.proofs.Slots.{Bound as SlotBound, other_slot}
 use Rattle.dpl_agreement.proofs.SlotDomains.{is_over_slot}
-use Rattle.dpl_memory.specs.Memory.{VariableKind, PlainKind, DomainKind, TupleKind, ArrayKind, Held, is_among, held_over_if, redomained_from}
+use Rattle.dpl_memory.specs.Memory.{VariableKind, PlainKind, DomainKind, TupleKind, ArrayKind, CellKind, Held, is_among, held_over_if, redomained_from}
 use Rattle.dpl_memory.specs.Resolved.{Shape, Bound, Sighted, Sight, IsUnusedIn, IsUnused, bind, without_frame, is_over, arrays_in, arrays_over}
 use Rattle.dpl_memory.proofs.InSight.{placed_over, Told, told_of, IsToldIn, IsTold, with_told, with_told_other}
 
@@ -32,6 +32,7 @@ KnownBy (PlainKind k) own z known shape = known ≡ None
 KnownBy DomainKind own z known shape = (placed_over known ≡ Some z) × (own ≡ shape)
 KnownBy TupleKind own z known shape = known ≡ None
 KnownBy (ArrayKind k) own z known shape = known ≡ None
+KnownBy (CellKind k) own z known shape = known ≡ None
 
 abbrev pub OverKnown : (ℕ → Told) → Option SlotBound → Option Bound → Shape → Sight → Type 0
 OverKnown told None known shape fs = known ≡ None
@@ -113,6 +114,7 @@ module _ (told : ℕ → Told) (slot : ℕ) (domain : (told slot).kind ≡ Domai
       by DomainKind is h = ap (is_over_slot slot) (sym h.0) ∙ is_over-placed slot known
       by TupleKind is h = no_domain_there z TupleKind known is (λ e. cc) h
       by (ArrayKind l) is h = no_domain_there z (ArrayKind l) known is (λ e. cc) h
+      by (CellKind l) is h = no_domain_there z (CellKind l) known is (λ e. cc) h
 
   -- and have its shape
   abbrev IsAlike : ℕ → Type 0
@@ -133,6 +135,7 @@ module _ (told : ℕ → Told) (slot : ℕ) (domain : (told slot).kind ≡ Domai
       by DomainKind h = sym h.1 ∙ ap (λ j. (told j).shape) (sym same)
       by TupleKind h = not_over h
       by (ArrayKind l) h = not_over h
+      by (CellKind l) h = not_over h
 
   either : (j i : ℕ) (c : Bool) → IsAlike i → (c ≡ true → IsAlike j) → ((j == i) || c) ≡ true → IsAlike j
   either j i c here rest =

@@ -33,10 +33,13 @@ before = record {
   tuples = no_tuple ∷ (pos 3 ∷ pos 4 ∷ []) ∷ no_tuple ∷ [];
   arrays = no_array ∷ no_array ∷ no_array ∷ [];
   roots = no_root ∷ no_root ∷ no_root ∷ [];
+  cells = [];
+  here = pos 0;
+  coming = record { replies = None; histories = [] };
 }
 
 abbrev turn : Memory
-turn = declared (record { kind = PlainKind IntLeaf; slot = 0; along = 1 ∷ [] }) (Plain (Int (pos 2))) before
+turn = declared (record { kind = PlainKind IntLeaf; slot = 0; along = 1 ∷ []; cells = [] }) (Plain (Int (pos 2))) before
 
 begun_anew : turn.words.numbers ≡ pos 2 ∷ pos 0 ∷ pos 9 ∷ []
 begun_anew = refl
@@ -45,5 +48,5 @@ tuple_anew : get_or turn.tuples 1 [] ≡ no_tuple
 tuple_anew = refl
 
 -- with no slot along all else stays
-left_there : (declared (record { kind = PlainKind IntLeaf; slot = 0; along = [] }) (Plain (Int (pos 2))) before).words.numbers ≡ pos 2 ∷ pos 7 ∷ pos 9 ∷ []
+left_there : (declared (record { kind = PlainKind IntLeaf; slot = 0; along = []; cells = [] }) (Plain (Int (pos 2))) before).words.numbers ≡ pos 2 ∷ pos 7 ∷ pos 9 ∷ []
 left_there = refl

@@ -61,7 +61,7 @@ sums_resolved = renamed_program resolved sums
 
 -- four slots, and nothing set
 abbrev start : Start
-start = record { slots = 4; texts = []; words = [] }
+start = record { slots = 4; cells = 0; texts = []; words = []; histories = None }
 
 sums_spelled : renamed_program text_of sums_resolved ≡ sums
 sums_spelled = refl
@@ -138,11 +138,11 @@ sums_leave = refl
 
 -- so by names it writes the same
 sums_mean : writes sums ≡ codes "20 false\n"
-sums_mean = written-memory start (limits 16777216 1) sums_resolved [] sums_fit ∙ sums_write
+sums_mean = written-memory start (limits 16777216 1) sums_resolved [] tt sums_fit ∙ sums_write
 
 -- config const n = 4; writeln(n);
 abbrev one_slot : Start
-one_slot = record { slots = 1; texts = (codes "n", Int (pos 7)) ∷ []; words = (0, pos 7) ∷ [] }
+one_slot = record { slots = 1; cells = 0; texts = (codes "n", Int (pos 7)) ∷ []; words = (0, pos 7) ∷ []; histories = None }
 
 abbrev configured_resolved : ProgramTree Bound
 configured_resolved = renamed_program (λ x. record { text = x; variable = int_leaf 0; shape = no_shape }) configured

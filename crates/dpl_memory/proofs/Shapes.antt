@@ -1,6 +1,6 @@
 -- Shapes of values: what is put into a slot keeps its shape there, and where one slot changes all others keep theirs.
 -- So in a memory that a program reaches each name in sight has a value of its shape.
-use Rattle.std.proofs.Common.{◌≡◌, ◌≢◌, ℕ, ◌<◌, Bool, true, false, List, [], ◌∷◌, refl, sym, ap, ◌∙◌, subst, Some, None, Option, ◌+◌, arith}
+use Rattle.std.proofs.Common.{◌≡◌, ◌≢◌, ℕ, ◌<◌, ℤ, Bool, true, false, List, [], ◌∷◌, refl, sym, ap, ◌∙◌, subst, Some, None, Option, ◌+◌, arith}
 use Rattle.std.specs.Prelude.{◌==◌, option_map}
 use Rattle.std.proofs.lemmas.Bool.Decides.{Decides-eqb}
 use Rattle.std.proofs.lemmas.List.{get_or-set_same}
@@ -11,12 +11,12 @@ use Rattle.dpl_language.specs.Arithmetic.{assigned}
 use Rattle.dpl_language.specs.Environment.{Content, Plain, ArrayOf, CellOf}
 use Rattle.dpl_agreement.proofs.Slots.{Bound as SlotBound}
 use Rattle.dpl_sound.specs.Typed.{MayStride, AreRanked}
-use Rattle.dpl_words.specs.Words.{LeafKind, IntLeaf, TruthLeaf, RangeLeaf, no_range, given_as}
+use Rattle.dpl_words.specs.Words.{LeafKind, IntLeaf, TruthLeaf, RangeLeaf, LocaleLeaf, no_range, given_as}
 use Rattle.dpl_language.specs.Distributions.{Root}
-use Rattle.dpl_memory.specs.Memory.{with_root, VariableKind, PlainKind, DomainKind, TupleKind, ArrayKind, Held, Memory, no_array, array_at, with_array, held_with, is_among, redomained_from, declared_array, value_in, with_value_in, with_element_in, intended}
+use Rattle.dpl_memory.specs.Memory.{with_root, VariableKind, PlainKind, DomainKind, TupleKind, ArrayKind, CellKind, Held, Coming, Memory, no_array, array_at, with_array, held_with, is_among, redomained_from, declared_array, value_in, with_value_in, with_element_in, intended}
 use Rattle.dpl_memory.specs.Resolved.{Shape, IsOf, IsWhole, MaySpan, HasShape, kind_takes, KindCombines, HasSlots, content_in}
 use Rattle.dpl_memory.proofs.Roots.{content_in-root}
-use Rattle.dpl_memory.proofs.OfKind.{content_in-set_same, content_in-intend}
+use Rattle.dpl_memory.proofs.OfKind.{content_in-set_same, content_in-intend, content_in-moved}
 use Rattle.dpl_memory.proofs.InSight.{Told, with_told, with_told_here, with_told_other}
 use Rattle.dpl_memory.proofs.OverShapes.{ranges-redomained}
 
@@ -44,6 +44,7 @@ value_in-content (PlainKind k) j s = refl
 value_in-content DomainKind j s = refl
 value_in-content TupleKind j s = refl
 value_in-content (ArrayKind k) j s = refl
+value_in-content (CellKind k) j s = refl
 
 content-same : (k : VariableKind) (j : ℕ) (s u : Memory) → content_in {N = SlotBound} k j None u ≡ content_in {N = SlotBound} k j None s → value_in k j s ≡ value_in k j u
 content-same k j s u e = sym (value_in-content k j s) ∙ ap content_value (sym e) ∙ value_in-content k j u
@@ -83,6 +84,7 @@ shaped-set (PlainKind k) shape slot v slots s p q old h within = subst (HasShape
 shaped-set DomainKind shape slot v slots s p q old h within = subst (HasShape DomainKind shape) (set-value DomainKind slot v slots s (p (λ e. e)) (λ e. e) h within) (q (λ e. e))
 shaped-set TupleKind shape slot v slots s p q old h within = subst (HasShape TupleKind shape) (set-value TupleKind slot v slots s (p (λ e. e)) (λ e. e) h within) (q (λ e. e))
 shaped-set (ArrayKind k) shape slot v slots s p q old h within = old tt
+shaped-set (CellKind k) shape slot v slots s p q old h within = tt
 
 -- ASSIGNMENTS: ranges, domains and tuples are given what stands on the right side
 only_set : (k : VariableKind) (shape : Shape) (op : Assign) (o : Option Op) (old v : Value) → kind_takes DomainKind op ≡ true → HasShape k shape v → HasShape k shape (assigned op o old v)
@@ -113,9 +115,11 @@ pub assigned-shaped : (k : VariableKind) (shape : Shape) (op : Assign) (o : Opti
 assigned-shaped (PlainKind IntLeaf) shape op o old v t c p n = tt
 assigned-shaped (PlainKind TruthLeaf) shape op o old v t c p n = tt
 assigned-shaped (PlainKind RangeLeaf) shape op o old v t c p n = range_set shape op o old v t c (p n)
+assigned-shaped (PlainKind LocaleLeaf) shape op o old v t c p n = tt
 assigned-shaped DomainKind shape op o old v t c p n = only_set DomainKind shape op o old v t (p n)
 assigned-shaped TupleKind shape op o old v t c p n = only_set TupleKind shape op o old v t (p n)
 assigned-shaped (ArrayKind k) shape op o old v t c p n = absurd (n tt)
+assigned-shaped (CellKind k) shape op o old v t c p n = tt
 
 -- AN ARRAY PUT into its slot has its domain there
 array-shaped : (shape : Shape) (slot : ℕ) (a : Held) (slots : ℕ) (s : Memory) → AreRanked shape.rank shape.strided a.ranges → HasSlots slots s → slot < slots
@@ -130,6 +134,7 @@ shaped-element (PlainKind k) shape slot t v slots s n within h = h
 shaped-element DomainKind shape slot t v slots s n within h = h
 shaped-element TupleKind shape slot t v slots s n within h = h
 shaped-element (ArrayKind k) shape slot t v slots s n within h = array-shaped shape slot (held_with t (kept_number v) (array_at slot s)) slots s h n within
+shaped-element (CellKind k) shape slot t v slots s n within h = h
 
 pub shaped-array : (kind : VariableKind) (shape : Shape) (slot : ℕ) (k : Kind) (a : Held) (slots : ℕ) (s : Memory) → MaySpan kind shape k a.ranges → HasSlots slots s → slot < slots
     → HasShape kind shape (value_in kind slot (declared_array kind slot a s))
@@ -137,6 +142,7 @@ shaped-array (PlainKind l) shape slot k a slots s h n within = absurd h
 shaped-array DomainKind shape slot k a slots s h n within = absurd h
 shaped-array TupleKind shape slot k a slots s h n within = absurd h
 shaped-array (ArrayKind l) shape slot k a slots s h n within = array-shaped shape slot a slots s h.1 n within
+shaped-array (CellKind l) shape slot k a slots s h n within = absurd h
 
 -- THE ARRAYS IN SOME SLOTS get another domain, which is of the shape of each
 pub shaped-redomained : (t : Told) (j : ℕ) (xs : List ℕ) (rs : List TextRange) (s : Memory) → (is_among j xs ≡ true → AreRanked t.shape.rank t.shape.strided rs)
@@ -150,9 +156,13 @@ shaped-redomained t j xs rs s new = by t.kind
     by (ArrayKind k) h =
         let from_zero : j ≡ 0 + j = omega arith in
         ranges-redomained (AreRanked t.shape.rank t.shape.strided) 0 xs rs s.arrays j no_array (subst (λ n. is_among n xs ≡ true → AreRanked t.shape.rank t.shape.strided rs) from_zero new) h
+    by (CellKind k) h = h
 
 pub shaped-intended : (told : ℕ → Told) (is : List (ℕ × Op)) (s : Memory) → IsShapedBy told s → IsShapedBy told (intended is s)
 shaped-intended told is s h j = kept-shape (told j) j s (intended is s) (sym (content_in-intend {N = SlotBound} (told j).kind j None is s)) (h j)
+
+pub shaped-moved : (told : ℕ → Told) (k : ℤ) (c : Coming) (s : Memory) → IsShapedBy told s → IsShapedBy told (record s { here = k; coming = c })
+shaped-moved told k c s h j = kept-shape (told j) j s (record s { here = k; coming = c }) (sym (content_in-moved {N = SlotBound} (told j).kind j None k c s)) (h j)
 
 pub shaped-root : (told : ℕ → Told) (slot : ℕ) (r : Root) (s : Memory) → IsShapedBy told s → IsShapedBy told (with_root slot r s)
 shaped-root told slot r s h j = kept-shape (told j) j s (with_root slot r s) (content_in-root {N = SlotBound} (told j).kind j None slot r s) (h j)
@@ -162,6 +172,7 @@ pub given-shaped : (k : LeafKind) (shape : Shape) (o : Option _) (v : Value) →
 given-shaped k shape None v e = cc
 given-shaped IntLeaf shape (Some w) v e = tt
 given-shaped TruthLeaf shape (Some w) v e = tt
+given-shaped LocaleLeaf shape (Some w) v e = tt
 given-shaped RangeLeaf shape (Some w) v e =
     let same : Range no_range ≡ v = cc in
     subst (HasShape (PlainKind RangeLeaf) shape) same (unstrided-shaped shape.strided)

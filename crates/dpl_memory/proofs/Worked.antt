@@ -35,7 +35,7 @@ named_in [] x = variable (PlainKind IntLeaf) 0
 named_in (p ∷ ps) x = if bytes_eq x p.0 then p.1 else named_in ps x
 
 abbrev domain_in : ℕ → List ℕ → Variable
-domain_in slot arrays = record { kind = DomainKind; slot = slot; along = arrays }
+domain_in slot arrays = record { kind = DomainKind; slot = slot; along = arrays; cells = [] }
 
 abbrev ints_in : ℕ → Variable
 ints_in slot = variable (ArrayKind IntKind) slot
@@ -44,7 +44,7 @@ abbrev int_in : ℕ → Variable
 int_in slot = variable (PlainKind IntLeaf) slot
 
 abbrev start : ℕ → Start
-start slots = record { slots = slots; texts = []; words = [] }
+start slots = record { slots = slots; cells = 0; texts = []; words = []; histories = None }
 
 abbrev kept : List (Text × Variable) → ProgramTree Text → List ℕ
 kept names t = written (run_from (limits 16777216 1) in_memory (renamed_program (named_in names) t) (first_memory (start 6)))
@@ -200,4 +200,4 @@ inner_array_fits = ( -- var D = {1..2};
 
 -- so it means what it writes from a memory
 inner_array_means : writes inner_array ≡ codes "1 0\n"
-inner_array_means = written-memory (start 6) (limits 16777216 1) inner_array_resolved [] inner_array_fits ∙ inner_array_writes
+inner_array_means = written-memory (start 6) (limits 16777216 1) inner_array_resolved [] tt inner_array_fits ∙ inner_array_writes

@@ -1,35 +1,46 @@
 -- Variables kept by slots: plain ones in words and ranges, and beside these lists of domains, of tuples and of arrays.
--- It is what a checked data-parallel program does on one locale; it has no cells and no other locales, and answers as if there were none.
-use Rattle.std.specs.Prelude.{ℕ, ◌+◌, ◌==◌, ℤ, pos, Bool, true, false, if◌then◌else◌, Option, Some, None, List, [], ◌∷◌, get_or, set, map, option_map, unwrap_or}
+-- And cells, the locale that a run is at, and what is to come to it: replies, where a task is run, and histories of coforalls.
+use Rattle.std.specs.Prelude.{ℕ, ◌+◌, ◌==◌, ℤ, pos, Bool, true, false, if◌then◌else◌, Option, Some, None, List, [], ◌∷◌, get_or, set, map, drop, length, option_map, unwrap_or}
 use Rattle.std.specs.List.{list_any}
 use Rattle.dpl_sets.specs.TextRanges.{TextRange}
+use Rattle.dpl_history.specs.declared.cell.CellState.{CellState}
+use Rattle.dpl_history.specs.declared.cell.CellState.TheVariants.{Empty}
+use Rattle.dpl_history.specs.declared.cell.CellOp.{CellOp}
+use Rattle.dpl_history.specs.declared.cell.Reply.{Reply}
+use Rattle.dpl_history.specs.declared.history.Event.{Event}
+use Rattle.dpl_history.specs.Cells.{effect}
+use Rattle.dpl_history.specs.Histories.{after}
 use Rattle.dpl_language.specs.Tree.{Op, Kind, IntKind, BoolKind}
-use Rattle.dpl_language.specs.Values.{Value, Int, Domain, Array, Tuple, Index, ranges_in, coordinates, kept_number}
+use Rattle.dpl_language.specs.Values.{Value, Int, Domain, Array, Tuple, Cell, Index, ranges_in, coordinates, kept_number}
 use Rattle.dpl_language.specs.Distributions.{Root, no_root}
 use Rattle.dpl_language.specs.Arithmetic.{assigned}
 use Rattle.dpl_language.specs.Ranges.{indices_in, same_index, empty_domain}
-use Rattle.dpl_language.specs.Environment.{Content, Plain, ArrayOf, CellOf, Unanswered, Environment}
+use Rattle.dpl_language.specs.Environment.{Content, Plain, ArrayOf, CellOf, Answer, Replied, Unanswered, Environment}
 use Rattle.dpl_lowered.specs.Known.{Known, WholeArray, NoArray, PlainValue}
 use Rattle.dpl_words.specs.Words.{LeafKind, IntLeaf, TruthLeaf, RangeLeaf, Words, is_true, no_range, intent_at, set_at, given_as, value_at, with_value_at}
 
--- THE KINDS OF VARIABLES: those of plain variables, and domains, tuple names of loops, and arrays of ints and truth values
+-- THE KINDS OF VARIABLES: those of plain variables, and domains, tuple names of loops, and arrays and cells of ints and of truth values
 pub data VariableKind : Type 0 where
   PlainKind : LeafKind → VariableKind
   DomainKind : VariableKind
   TupleKind : VariableKind
   ArrayKind : Kind → VariableKind
+  CellKind : Kind → VariableKind
 
 -- What stands for a name in a checked tree: its kind, and the slot of its declaration; and along with it other slots. Where a
 -- domain is assigned these are those of the arrays in sight that are declared over its bare name; where a plain variable is
--- declared, those that begin anew with it, as a turn's do with the variable of its forall. Elsewhere there are none.
+-- declared, those that begin anew with it, as a turn's do with the variable of its forall. And slots of cells, from the first
+-- declared on: where a cell is used, of those before it, whose count is its number; and of all in sight, with the variable of a
+-- coforall. Elsewhere there are none.
 pub record Variable : Type 0 where
   pub kind : VariableKind
   pub slot : ℕ
   pub along : List ℕ
+  pub cells : List ℕ
 
 -- a name with no other slots along
 abbrev pub variable : VariableKind → ℕ → Variable
-variable kind slot = record { kind = kind; slot = slot; along = [] }
+variable kind slot = record { kind = kind; slot = slot; along = []; cells = [] }
 
 -- a plain variable, as a leaf of a tree
 abbrev pub int_leaf : ℕ → Variable
@@ -47,6 +58,7 @@ known_kind (PlainKind k) = PlainValue
 known_kind DomainKind = NoArray
 known_kind TupleKind = PlainValue
 known_kind (ArrayKind k) = WholeArray
+known_kind (CellKind k) = PlainValue
 
 abbrev pub known_variable : Variable → Known
 known_variable x = known_kind x.kind
@@ -67,14 +79,34 @@ abbrev pub element_as : Kind → ℤ → Value
 element_as IntKind w = Int w
 element_as BoolKind w = is_true w
 
+-- What is to come to a run: where a task is run, the replies that are left for it; and the histories of the coforalls that are
+-- still to be entered.
+pub record Coming : Type 0 where
+  pub replies : Option (List Reply)
+  pub histories : List (List Event)
+
 -- A MEMORY: the words and ranges of plain variables, with the reduce variables of the forall around and what the command
--- line sets; and by the same slots domains, tuples and arrays, and the roots of domains and arrays
+-- line sets; by the same slots domains, tuples and arrays, the roots of domains and arrays, and cells; and the number of
+-- `here`, and what is to come
 pub record Memory : Type 0 where
   pub words : Words
   pub domains : List (List TextRange)
   pub tuples : List Index
   pub arrays : List Held
   pub roots : List Root
+  pub cells : List CellState
+  pub here : ℤ
+  pub coming : Coming
+
+-- what of a memory is no variable's
+pub record Rest : Type 0 where
+  pub roots : List Root
+  pub cells : List CellState
+  pub here : ℤ
+  pub coming : Coming
+
+abbrev pub rest_of : Memory → Rest
+rest_of s = record { roots = s.roots; cells = s.cells; here = s.here; coming = s.coming }
 
 -- what stands in a slot past the last one, and at the start: the domain `{1..0}`, the index 0, and an array over that domain
 abbrev pub no_domain : List TextRange
@@ -89,12 +121,20 @@ no_array = record { ranges = no_domain; keys = []; words = [] }
 abbrev pub array_at : ℕ → Memory → Held
 array_at slot s = get_or s.arrays slot no_array
 
+-- a slot past the last cell has an empty one
+abbrev pub cell_at : ℕ → Memory → CellState
+cell_at slot s = get_or s.cells slot Empty
+
+abbrev pub with_cell : ℕ → CellState → Memory → Memory
+with_cell slot c s = record s { cells = set s.cells slot c }
+
 -- the value of a variable; of an array its kind and its domain alone
 abbrev pub value_in : VariableKind → ℕ → Memory → Value
 value_in (PlainKind k) slot s = value_at k slot s.words
 value_in DomainKind slot s = Domain (get_or s.domains slot no_domain)
 value_in TupleKind slot s = Tuple (get_or s.tuples slot no_tuple)
 value_in (ArrayKind k) slot s = Array k (array_at slot s).ranges
+value_in (CellKind k) slot s = Cell k
 
 -- a value put into a slot, past the last of which nothing changes; a whole array is no value that is put
 abbrev pub with_value_in : VariableKind → ℕ → Value → Memory → Memory
@@ -102,6 +142,7 @@ with_value_in (PlainKind k) slot v s = record s { words = with_value_at k slot v
 with_value_in DomainKind slot v s = record s { domains = set s.domains slot (ranges_in v) }
 with_value_in TupleKind slot v s = record s { tuples = set s.tuples slot (coordinates v) }
 with_value_in (ArrayKind k) slot v s = s
+with_value_in (CellKind k) slot v s = s
 
 abbrev pub with_array : ℕ → Held → Memory → Memory
 with_array slot a s = record s { arrays = set s.arrays slot a }
@@ -128,12 +169,14 @@ element_in (PlainKind k) slot t s = None
 element_in DomainKind slot t s = None
 element_in TupleKind slot t s = None
 element_in (ArrayKind k) slot t s = option_map (element_as k) (held_at t (array_at slot s))
+element_in (CellKind k) slot t s = None
 
 abbrev pub with_element_in : VariableKind → ℕ → Index → Value → Memory → Memory
 with_element_in (PlainKind k) slot t v s = s
 with_element_in DomainKind slot t v s = s
 with_element_in TupleKind slot t v s = s
 with_element_in (ArrayKind k) slot t v s = with_array slot (held_with t (kept_number v) (array_at slot s)) s
+with_element_in (CellKind k) slot t v s = s
 
 -- DECLARATIONS
 abbrev pub declared_array : VariableKind → ℕ → Held → Memory → Memory
@@ -141,6 +184,7 @@ declared_array (PlainKind k) slot a s = s
 declared_array DomainKind slot a s = s
 declared_array TupleKind slot a s = s
 declared_array (ArrayKind k) slot a s = with_array slot a s
+declared_array (CellKind k) slot a s = s
 
 -- a slot that begins anew: its word is 0, its range `1..0` and its tuple the index 0
 abbrev pub renewed : ℕ → Memory → Memory
@@ -160,6 +204,7 @@ root_in (PlainKind k) slot roots = no_root
 root_in DomainKind slot roots = get_or roots slot no_root
 root_in TupleKind slot roots = no_root
 root_in (ArrayKind k) slot roots = get_or roots slot no_root
+root_in (CellKind k) slot roots = no_root
 
 abbrev pub with_root : ℕ → Root → Memory → Memory
 with_root slot r s = record s { roots = set s.roots slot r }
@@ -169,11 +214,12 @@ undealt (PlainKind k) slot s = s
 undealt DomainKind slot s = with_root slot no_root s
 undealt TupleKind slot s = s
 undealt (ArrayKind k) slot s = with_root slot no_root s
+undealt (CellKind k) slot s = s
 
 abbrev pub declared : Variable → Content Variable → Memory → Memory
 declared x (Plain v) s = undealt x.kind x.slot (with_value_in x.kind x.slot v (anew x.along s))
 declared x (ArrayOf over k rs vs) s = undealt x.kind x.slot (declared_array x.kind x.slot (whole_held rs (map kept_number vs)) s)
-declared x (CellOf k c) s = s
+declared x (CellOf k c) s = with_cell x.slot c s
 
 -- the value that the command line gives: to plain variables alone
 abbrev pub given_in : VariableKind → ℕ → Memory → Option Value
@@ -181,6 +227,7 @@ given_in (PlainKind k) slot s = option_map (given_as k) (set_at slot s.words.set
 given_in DomainKind slot s = None
 given_in TupleKind slot s = None
 given_in (ArrayKind k) slot s = None
+given_in (CellKind k) slot s = None
 
 -- DOMAIN VARIABLES: the arrays in these slots get the domain, and keep the elements whose indices are in both
 abbrev pub is_among : ℕ → List ℕ → Bool
@@ -214,6 +261,36 @@ intended is s = record s { words = record s.words { intents = is } }
 abbrev pub intents_by_slot : List (Variable × Op) → List (ℕ × Op)
 intents_by_slot is = map {A = Variable × Op} {B = ℕ × Op} (λ p. (p.0.slot, p.1)) is
 
+-- CELLS. Outside tasks an operation takes effect on the cell in a slot, or waits; the answer tells the cell's number.
+abbrev pub effect_in : ℕ → ℕ → Memory → Option (CellState × Reply) → Answer Memory
+effect_in number slot s None = Unanswered number
+effect_in number slot s (Some a) = Replied number a.1 (with_cell slot a.0 s)
+
+abbrev pub with_replies : List Reply → Memory → Memory
+with_replies rs s = record s { coming = record s.coming { replies = Some rs } }
+
+-- in a task it gets the next reply, or waits where none is left
+abbrev pub called_by : ℕ → ℕ → CellOp → Memory → Option (List Reply) → Answer Memory
+called_by number slot op s None = effect_in number slot s (effect op (cell_at slot s))
+called_by number slot op s (Some []) = Unanswered number
+called_by number slot op s (Some (r ∷ rs)) = Replied number r (with_replies rs s)
+
+-- the cells in some slots, in their order; and a list of cells with others in these slots
+abbrev pub cells_at : List ℕ → Memory → List CellState
+cells_at slots s = map (λ slot. cell_at slot s) slots
+
+abbrev pub with_cells : List ℕ → List CellState → List CellState → List CellState
+with_cells (slot ∷ slots) (c ∷ cs) cells = with_cells slots cs (set cells slot c)
+with_cells _ _ cells = cells
+
+-- the tasks of a history have run over the cells in some slots, and it is no more to come
+abbrev pub settled_in : List ℕ → List Event → Memory → Memory
+settled_in slots h s =
+    record s {
+      cells = with_cells slots (after (cells_at slots s) h) s.cells;
+      coming = record s.coming { histories = drop 1 s.coming.histories };
+    }
+
 abbrev pub in_memory : Environment Variable Memory
 in_memory = record {
   get = λ x s. value_in x.kind x.slot s;
@@ -231,11 +308,11 @@ in_memory = record {
   note = λ at rs s done. done;
   has_arrays = λ x s. is_some_array x.along;
   redomain = redomained_in;
-  here = λ s. pos 0;
-  move = λ k s. s;
-  call = λ x op s. Unanswered 0;
-  cells = λ x s. [];
-  history = λ s. [];
-  begin = λ rs s. s;
-  settle = λ x h s. s;
+  here = λ s. s.here;
+  move = λ k s. record s { here = k };
+  call = λ x op s. called_by (length x.cells) x.slot op s s.coming.replies;
+  cells = λ x s. cells_at x.cells s;
+  history = λ s. get_or s.coming.histories 0 [];
+  begin = with_replies;
+  settle = λ x h s. settled_in x.cells h s;
 }

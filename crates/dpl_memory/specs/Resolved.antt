@@ -1,9 +1,11 @@
--- Data-parallel programs whose names are resolved: each stands with its text, and with the kind and the slot of its declaration.
+-- Programs whose names are resolved: each stands with its text, and with the kind and the slot of its declaration.
 -- Where such a name may stand, and when a memory is the store by names.
-use Rattle.std.specs.Prelude.{◌≡◌, ◌≢◌, ℕ, ◌==◌, ◌<◌, ℤ, pos, Bool, true, false, not, All, bytes_eq, if◌then◌else◌, Option, Some, None, Ok, List, [], ◌∷◌, ◌++◌, map, option_map, length, replicate}
+use Rattle.std.specs.Prelude.{◌≡◌, ◌≢◌, ℕ, ◌==◌, ◌<◌, ℤ, pos, Bool, true, false, not, All, bytes_eq, if◌then◌else◌, Option, Some, None, Ok, List, [], ◌∷◌, ◌++◌, map, option_map, unwrap_or, length, replicate}
 use Rattle.std.specs.Option.{option_or}
 use Rattle.dpl_syntax.specs.declared.place.Place.{Place}
 use Rattle.dpl_sets.specs.TextRanges.{TextRange}
+use Rattle.dpl_history.specs.declared.cell.CellState.TheVariants.{Empty}
+use Rattle.dpl_history.specs.declared.history.Event.{Event}
 use Rattle.dpl_language.specs.Tree.{Op, Assign, Set, SetAdd, SetSubtract, SetMultiply, SetDivide, SetRemainder, SetReduce, ItemTree, Items, Kind, IntKind, BoolKind}
 use Rattle.dpl_language.specs.Values.{Value, Int, Truth, Domain, Tuple, Index, ranges_in, coordinates}
 use Rattle.dpl_language.specs.Distributions.{no_root}
@@ -17,8 +19,8 @@ use Rattle.dpl_language.specs.Program.{own_entry}
 use Rattle.dpl_agreement.specs.Renamed.{renamed_item, renamed_items, renamed_intents}
 use Rattle.dpl_agreement.specs.Scopes.{Form, PlainForm, ArrayForm, CellForm, Scoping}
 use Rattle.dpl_sound.specs.Typed.{MayStride, AreRanked}
-use Rattle.dpl_words.specs.Words.{IntLeaf, TruthLeaf, RangeLeaf, no_range, intent_at, set_at, given_as, IsOfKind, is_arithmetic, takes, Combines}
-use Rattle.dpl_memory.specs.Memory.{VariableKind, PlainKind, DomainKind, TupleKind, ArrayKind, Variable, Held, Memory, no_domain, no_tuple, no_array, element_as, value_in, array_at, intents_by_slot, in_memory}
+use Rattle.dpl_words.specs.Words.{IntLeaf, TruthLeaf, RangeLeaf, LocaleLeaf, no_range, intent_at, set_at, given_as, IsOfKind, is_arithmetic, takes, Combines}
+use Rattle.dpl_memory.specs.Memory.{VariableKind, PlainKind, DomainKind, TupleKind, ArrayKind, CellKind, Variable, Held, Memory, no_domain, no_tuple, no_array, cell_at, element_as, value_in, array_at, intents_by_slot, in_memory}
 
 -- What the type of a name tells of its values: how many dimensions a domain has, and how many coordinates a tuple; and whether
 -- a range, or a range of a domain, may be one that the text strides. Of numbers and truth values nothing is told.
@@ -100,6 +102,7 @@ if_domain (PlainKind k) y = None
 if_domain DomainKind y = Some y
 if_domain TupleKind y = None
 if_domain (ArrayKind k) y = None
+if_domain (CellKind k) y = None
 
 abbrev pub domain_among : Option Bound → Option Bound
 domain_among None = None
@@ -125,6 +128,26 @@ abbrev pub arrays_over : ℕ → Sight → List ℕ
 arrays_over slot [] = []
 arrays_over slot (f ∷ fs) = arrays_in slot f ++ arrays_over slot fs
 
+-- the slots of the cells in sight, from the first declared on; and of those before a slot
+abbrev pub slot_if_cell : VariableKind → ℕ → List ℕ
+slot_if_cell (PlainKind k) slot = []
+slot_if_cell DomainKind slot = []
+slot_if_cell TupleKind slot = []
+slot_if_cell (ArrayKind k) slot = []
+slot_if_cell (CellKind k) slot = slot ∷ []
+
+abbrev pub cells_of : List Sighted → List ℕ
+cells_of [] = []
+cells_of (b ∷ bs) = slot_if_cell b.kind b.slot ++ cells_of bs
+
+abbrev pub cells_in : Sight → List ℕ
+cells_in [] = []
+cells_in (f ∷ fs) = cells_in fs ++ cells_of f
+
+abbrev pub before : ℕ → List ℕ → List ℕ
+before slot [] = []
+before slot (j ∷ js) = if slot == j then [] else j ∷ before slot js
+
 -- the names in sight, and the reduce variables of the forall around
 pub record Seen : Type 0 where
   pub frames : Sight
@@ -144,6 +167,7 @@ IsOf (PlainKind k) v = IsOfKind k v
 IsOf DomainKind v = (rs : List TextRange) × (v ≡ Domain rs)
 IsOf TupleKind v = (t : Index) × (v ≡ Tuple t)
 IsOf (ArrayKind k) v = IsElement k v
+IsOf (CellKind k) v = ⊥
 
 -- A value of a shape: as many ranges as the rank, which the text strides only where it may; and as many coordinates. Of an
 -- array it is the shape of its domain.
@@ -151,9 +175,11 @@ abbrev pub HasShape : VariableKind → Shape → Value → Type 0
 HasShape (PlainKind IntLeaf) shape v = Unit {0}
 HasShape (PlainKind TruthLeaf) shape v = Unit {0}
 HasShape (PlainKind RangeLeaf) shape v = MayStride shape.strided (ranges_in v)
+HasShape (PlainKind LocaleLeaf) shape v = Unit {0}
 HasShape DomainKind shape v = AreRanked shape.rank shape.strided (ranges_in v)
 HasShape TupleKind shape v = length (coordinates v) ≡ shape.rank
 HasShape (ArrayKind k) shape v = AreRanked shape.rank shape.strided (ranges_in v)
+HasShape (CellKind k) shape v = Unit {0}
 
 -- what is no plain value: a whole array, which is given its elements one by one
 abbrev pub IsWhole : VariableKind → Type 0
@@ -161,6 +187,7 @@ IsWhole (PlainKind k) = ⊥
 IsWhole DomainKind = ⊥
 IsWhole TupleKind = ⊥
 IsWhole (ArrayKind k) = Unit {0}
+IsWhole (CellKind k) = ⊥
 
 -- what a variable may be given: a value of its kind and its shape, and an element of an array what its kind says alone
 abbrev pub MayHold : VariableKind → Shape → Value → Type 0
@@ -172,12 +199,24 @@ MaySpan (PlainKind l) shape k rs = ⊥
 MaySpan DomainKind shape k rs = ⊥
 MaySpan TupleKind shape k rs = ⊥
 MaySpan (ArrayKind l) shape k rs = (k ≡ l) × AreRanked shape.rank shape.strided rs
+MaySpan (CellKind l) shape k rs = ⊥
+
+-- a cell of a kind is one that a variable may be
+abbrev pub IsCellOf : VariableKind → Kind → Type 0
+IsCellOf (PlainKind l) k = ⊥
+IsCellOf DomainKind k = ⊥
+IsCellOf TupleKind k = ⊥
+IsCellOf (ArrayKind l) k = ⊥
+IsCellOf (CellKind l) k = k ≡ l
+
+abbrev pub IsCell : VariableKind → Type 0
+IsCell kind = (k : Kind) × (kind ≡ CellKind k)
 
 -- what a variable may hold; of an array each element is one that it may be given
 abbrev pub Holds : VariableKind → Shape → Content Bound → Type 0
 Holds kind shape (Plain v) = MayHold kind shape v
 Holds kind shape (ArrayOf over k rs vs) = MaySpan kind shape k rs × All (IsOf kind) vs
-Holds kind shape (CellOf k c) = ⊥
+Holds kind shape (CellOf k c) = IsCellOf kind k
 
 -- `=` alone
 abbrev pub is_set : Assign → Bool
@@ -199,6 +238,7 @@ kind_takes (PlainKind k) op = takes k op
 kind_takes DomainKind op = is_set op
 kind_takes TupleKind op = is_set op
 kind_takes (ArrayKind k) op = element_takes k op
+kind_takes (CellKind k) op = false
 
 -- the operators of reductions that put values of a kind together
 abbrev pub KindCombines : VariableKind → Option Op → Type 0
@@ -206,6 +246,7 @@ KindCombines (PlainKind k) o = Combines k o
 KindCombines DomainKind o = Unit {0}
 KindCombines TupleKind o = Unit {0}
 KindCombines (ArrayKind k) o = Unit {0}
+KindCombines (CellKind k) o = Unit {0}
 
 -- `reduce=` is by the same operator, told by texts or by slots, and one of the variable's kind
 abbrev pub IntentResolves : Assign → Text → Variable → Seen → Type 0
@@ -225,6 +266,7 @@ ArraysResolve (PlainKind k) x g = Unit {0}
 ArraysResolve DomainKind x g = x.variable.along ≡ arrays_over x.variable.slot g.frames
 ArraysResolve TupleKind x g = Unit {0}
 ArraysResolve (ArrayKind k) x g = Unit {0}
+ArraysResolve (CellKind k) x g = Unit {0}
 
 -- a name has the kind, the slot and the shape of its innermost declaration
 abbrev pub Resolves : Bound → Seen → Type 0
@@ -257,6 +299,7 @@ SuitsKind (PlainKind k) shape item g = GivesOnce (PlainKind k) shape item g
 SuitsKind DomainKind shape item g = GivesOnce DomainKind shape item g
 SuitsKind TupleKind shape item g = GivesOnce TupleKind shape item g
 SuitsKind (ArrayKind k) shape item g = (HasNoArray item → GivesOnce (ArrayKind k) shape item g) × GivesTurns k item g
+SuitsKind (CellKind k) shape item g = GivesOnce (CellKind k) shape item g
 
 abbrev pub Suits : VariableKind → Shape → ItemTree Bound → Seen → Type 0
 Suits kind shape item g = (item_read item ≡ None) × SuitsKind kind shape item g
@@ -294,26 +337,51 @@ abbrev pub OverResolves : Option Bound → Shape → Seen → Type 0
 OverResolves None shape g = Unit {0}
 OverResolves (Some y) shape g = Resolves y g × (y.variable.kind ≡ DomainKind → y.shape ≡ shape)
 
--- arrays are declared as arrays, over a name in sight, and all else as plain variables; there are no cells
+-- arrays are declared as arrays, over a name in sight, cells as cells, and all else as plain variables
 abbrev pub Declares : ℕ → Bound → Form Bound → Seen → Type 0
 Declares slots x PlainForm g = IsNew slots x g × (IsWhole x.variable.kind → ⊥)
 Declares slots x (ArrayForm over) g = IsNew slots x g × IsWhole x.variable.kind × OverResolves over x.shape g
-Declares slots x CellForm g = ⊥
+Declares slots x CellForm g = IsNew slots x g × IsCell x.variable.kind
 
--- How many slots a memory has; and what the command line sets, by texts and by slots.
+-- How many slots a memory has, and how many cells, which is as many or none; what the command line sets, by texts and by slots; and, for a
+-- program with coforalls, the histories that these take. Whatever they are, a program without any runs alike.
 pub record Start : Type 0 where
   pub slots : ℕ
+  pub cells : ℕ
   pub texts : List (Text × Value)
   pub words : List (ℕ × ℤ)
+  pub histories : Option (List (List Event))
 
 abbrev pub IsGivenAs : VariableKind → Bound → Start → Type 0
 IsGivenAs (PlainKind k) x start = paired x.text start.texts ≡ option_map (given_as k) (set_at x.variable.slot start.words)
 IsGivenAs DomainKind x start = ⊥
 IsGivenAs TupleKind x start = ⊥
 IsGivenAs (ArrayKind k) x start = ⊥
+IsGivenAs (CellKind k) x start = ⊥
 
--- Where a resolved data-parallel program may use a name. There are no cells, tasks and locales, and no forall with reduce
--- variables has another in it.
+-- a memory with cells in its slots; and one to which histories are to come
+abbrev pub HasCells : Start → Type 0
+HasCells start = start.cells ≡ start.slots
+
+abbrev pub AreKnown : Option (List (List Event)) → Type 0
+AreKnown None = ⊥
+AreKnown (Some first) = Unit {0}
+
+-- what may be declared: cells where the memory has cells
+abbrev pub MayDeclare : Start → Bound → Form Bound → Seen → Type 0
+MayDeclare start x PlainForm g = Declares start.slots x PlainForm g
+MayDeclare start x (ArrayForm over) g = Declares start.slots x (ArrayForm over) g
+MayDeclare start x CellForm g = IsNew start.slots x g × IsCell x.variable.kind × HasCells start
+
+-- where a cell is used, the cells before it stand with it; and with the variable of a coforall those in sight
+abbrev pub CallResolves : Start → Bound → Seen → Type 0
+CallResolves start x g =
+    Resolves x g × IsCell x.variable.kind × (x.variable.cells ≡ before x.variable.slot (cells_in g.frames)) × HasCells start
+
+abbrev pub CoforallResolves : Start → Bound → Seen → Type 0
+CoforallResolves start x g = (x.variable.cells ≡ cells_in g.frames) × HasCells start × AreKnown start.histories
+
+-- Where a resolved program may use a name. No forall with reduce variables has another in it.
 abbrev pub resolving : Start → Scoping Bound Seen
 resolving start = record {
   reads = Resolves;
@@ -323,8 +391,8 @@ resolving start = record {
       Resolves x g × (kind_takes x.variable.kind op ≡ true) × IntentResolves op x.text x.variable g × ArraysResolve x.variable.kind x g;
   assigns_at = λ x t. Resolves x;
   assigns_element = λ x items. Resolves x;
-  calls = λ x g. ⊥;
-  declares = Declares start.slots;
+  calls = CallResolves start;
+  declares = MayDeclare start;
   gives = λ x g. IsGivenAs x.variable.kind x start;
   holds = λ x. Holds x.variable.kind x.shape;
   suits = λ x item. Suits x.variable.kind x.shape item;
@@ -333,8 +401,8 @@ resolving start = record {
   spans = λ x items. Spans x.variable.kind x.shape items;
   spans_array = λ x k items. SpansArray x.variable.kind x.shape k items;
   intends = λ is g. g.intents ≡ [];
-  coforalls = λ x g. ⊥;
-  moves = λ g. ⊥;
+  coforalls = CoforallResolves start;
+  moves = λ g. Unit {0};
   add = λ x form g. record g { frames = bind (sighted x form) g.frames };
   enter = λ g. record g { frames = [] ∷ g.frames };
   leave = λ g. record g { frames = without_frame g.frames };
@@ -351,6 +419,7 @@ content_in (PlainKind k) slot over s = Plain (value_in (PlainKind k) slot s)
 content_in DomainKind slot over s = Plain (value_in DomainKind slot s)
 content_in TupleKind slot over s = Plain (value_in TupleKind slot s)
 content_in (ArrayKind k) slot over s = array_content over k (array_at slot s)
+content_in (CellKind k) slot over s = CellOf k (cell_at slot s)
 
 abbrev pub entry_in : Memory → Sighted → Entry
 entry_in s b = record { name = b.text; content = content_in b.kind b.slot None s }
@@ -377,7 +446,8 @@ left_in fs (Done s done) = Some (frame_in s (names_in_order fs))
 left_in fs (Stop f done) = None
 left_in fs (Waits at c op done) = None
 
--- A memory at the start: in each slot a word, a range, a domain, a tuple, an array and a root.
+-- A memory at the start: in each slot a word, a range, a domain, a tuple, an array and a root, and in those for cells empty ones.
+-- `here` is the locale 0, and no task is run.
 abbrev pub first_memory : Start → Memory
 first_memory start = record {
   words = record {
@@ -390,6 +460,9 @@ first_memory start = record {
   tuples = replicate start.slots no_tuple;
   arrays = replicate start.slots no_array;
   roots = replicate start.slots no_root;
+  cells = replicate start.cells Empty;
+  here = pos 0;
+  coming = record { replies = None; histories = unwrap_or start.histories [] };
 }
 
 -- as many of each kind as there are slots
@@ -406,12 +479,20 @@ own_store [] = []
 own_store (Opened ∷ es) = Opened ∷ own_store es
 own_store (Declared e ∷ es) = Declared (own_entry e) ∷ own_store es
 
+-- the histories that are to come are the same, where the program may take one
+abbrev pub AreToCome : Option (List (List Event)) → List (List Event) → List (List Event) → Type 0
+AreToCome None hs is = Unit {0}
+AreToCome (Some first) hs is = hs ≡ is
+
 -- A memory with as many slots as at the start is the store by names, and all else is the same.
 pub record StandsFor (start : Start) (g : Seen) (s1 : State) (s2 : Memory) : Type 0 where
   pub store : own_store s1.store ≡ store_in s2 g.frames
   pub slots : HasSlots start.slots s2
   pub intents : s1.intents ≡ renamed_intents text_of g.intents
   pub intents_by_slots : s2.words.intents ≡ intents_by_slot (renamed_intents variable_of g.intents)
-  pub here : s1.here ≡ pos 0
+  pub cells : length s2.cells ≡ start.cells
+  pub here : s1.here ≡ s2.here
+  pub replies : s1.replies ≡ s2.coming.replies
+  pub histories : AreToCome start.histories s1.histories s2.coming.histories
   pub texts : s1.sets ≡ start.texts
   pub words : s2.words.sets ≡ start.words

@@ -242,7 +242,7 @@ array_declared d = declared_with (placed_leaf d.at.now (variable (ArrayKind (ini
 
 -- a domain, with the arrays that change with it
 abbrev pub domain_leaf : DomainName → Placed Variable
-domain_leaf x = placed_leaf x.at.now (record { kind = DomainKind; slot = x.slot; along = x.arrays.now })
+domain_leaf x = placed_leaf x.at.now (record { kind = DomainKind; slot = x.slot; along = x.arrays.now; cells = [] })
 
 -- what is done to a variable or an element that is a truth value
 abbrev pub truth_stated : TruthTarget → ExprTree Variable → StmtTree Variable

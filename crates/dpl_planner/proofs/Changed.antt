@@ -1,6 +1,6 @@
 -- An assignment: its name has the variable of its declaration, which takes the operator and holds the value.
 -- So it is planned where its parts are.
-use Rattle.std.proofs.Common.{◌≡◌, ℕ, List, Bool, true, false, Option, Some, None, Result, Ok, Err, refl, sym, ap, ◌∙◌, subst}
+use Rattle.std.proofs.Common.{◌≡◌, ℕ, List, [], Bool, true, false, Option, Some, None, Result, Ok, Err, refl, sym, ap, ◌∙◌, subst}
 use Rattle.std.specs.Prelude.{IfOk, ◌||◌}
 use Rattle.dpl_syntax.specs.declared.place.Place.{Place}
 use Rattle.dpl_language.specs.Tree.{Placed, Op, Assign, Set, SetAdd, SetSubtract, SetMultiply, SetDivide, SetRemainder, SetReduce, AssignTree, ItemTree, Whole, StmtTree, Assigned}
@@ -14,7 +14,7 @@ use Rattle.dpl_lowered.specs.Known.{may_be_whole, may_be_array}
 use Rattle.dpl_lowered.specs.Shapes.{nowhere, placed, kept}
 use Rattle.dpl_lowered.specs.LoweredStatements.{lowered_sign, lowered_side, times_by, lowered_stmt}
 use Rattle.dpl_lowered.specs.LoweredExpressions.{Once}
-use Rattle.dpl_memory.specs.Memory.{VariableKind, PlainKind, DomainKind, TupleKind, ArrayKind, Variable, variable, known_kind, known_variable}
+use Rattle.dpl_memory.specs.Memory.{VariableKind, PlainKind, DomainKind, TupleKind, CellKind, ArrayKind, Variable, variable, known_kind, known_variable}
 use Rattle.dpl_memory.specs.Resolved.{variable_of, Bound, kind_takes, IntentResolves, ArraysResolve, Suits}
 use Rattle.dpl_nodes.specs.declared.step.Step.{Step}
 use Rattle.dpl_nodes.specs.Steps.{step_view}
@@ -38,22 +38,25 @@ changed-single (PlainKind k) h = refl
 changed-single DomainKind h = refl
 changed-single TupleKind h = refl
 changed-single (ArrayKind k) h = absurd h
+changed-single (CellKind c) h = refl
 
 single-whole : (k : VariableKind) → is_promoted k ≡ false → may_be_array (known_kind k) ≡ false
 single-whole (PlainKind k) e = refl
 single-whole DomainKind e = refl
 single-whole TupleKind e = refl
 single-whole (ArrayKind k) e = let f : true ≡ false = e in cc
+single-whole (CellKind c) e = refl
 
 -- the arrays in sight that are over it stand with its name
 pub arrays-stand : (ss : Scopes) (is : List (Bound × Op)) (x : Text) → ArraysResolve (leaf_in ss x).kind (assigned_in ss x) (seen_of ss is)
 arrays-stand ss is x = by (leaf_in ss x).kind
   where
-    by : (k : VariableKind) → ArraysResolve k (record { text = x; variable = record { kind = k; slot = (leaf_in ss x).slot; along = arrays_at k (leaf_in ss x).slot ss }; shape = shape_in ss x }) (seen_of ss is)
+    by : (k : VariableKind) → ArraysResolve k (record { text = x; variable = record { kind = k; slot = (leaf_in ss x).slot; along = arrays_at k (leaf_in ss x).slot ss; cells = [] }; shape = shape_in ss x }) (seen_of ss is)
     by (PlainKind k) = tt
     by DomainKind = refl
     by TupleKind = tt
     by (ArrayKind k) = tt
+    by (CellKind c) = tt
 
 -- an assignment to a variable, lowered by what is known of it
 abbrev pub lowered_to : Placed Text → AssignTree → ItemTree Variable → Variable → StmtTree Variable

@@ -27,8 +27,8 @@ use Rattle.dpl_lowered.specs.Shapes.{nowhere, placed, as_item}
 use Rattle.dpl_lowered.specs.LoweredStatements.{default_tree, mapped_initial, written_initial, ranked_type, written_type, unplaced_word, lowered_init, lowered_init_map, lowered_mapped, map_by, declared_type, declared_initial}
 use Rattle.dpl_lowered.specs.LoweredExpressions.{Times, Once, lowered_items}
 use Rattle.dpl_words.specs.Words.{LeafKind, IntLeaf, TruthLeaf}
-use Rattle.dpl_memory.specs.Memory.{VariableKind, PlainKind, DomainKind, TupleKind, ArrayKind, Variable, variable, known_variable}
-use Rattle.dpl_memory.specs.Resolved.{Bound, Seen, Start, text_of, variable_of, resolving, MayHold, IsUnused, IsNew, Declares, Suits, Spans}
+use Rattle.dpl_memory.specs.Memory.{VariableKind, PlainKind, DomainKind, TupleKind, CellKind, ArrayKind, Variable, variable, known_variable}
+use Rattle.dpl_memory.specs.Resolved.{Bound, Seen, Start, text_of, variable_of, resolving, MayHold, IsUnused, IsNew, Declares, MayDeclare, Suits, Spans}
 use Rattle.dpl_nodes.specs.declared.step.Step.{Step}
 use Rattle.dpl_nodes.specs.declared.placing.Placing.{Placing}
 use Rattle.dpl_nodes.specs.declared.placing.Placing.TheVariants.{Derived}
@@ -274,12 +274,14 @@ declared-single (PlainKind k) h = refl
 declared-single DomainKind h = refl
 declared-single TupleKind h = absurd h
 declared-single (ArrayKind k) h = absurd h
+declared-single (CellKind c) h = absurd h
 
 scalar-leaf : (k : VariableKind) → IsScalarKind k → (l : LeafKind) × (k ≡ PlainKind l)
 scalar-leaf (PlainKind l) h = (l, refl)
 scalar-leaf DomainKind h = absurd h
 scalar-leaf TupleKind h = absurd h
 scalar-leaf (ArrayKind k) h = absurd h
+scalar-leaf (CellKind c) h = absurd h
 
 -- the lowered tree of a declaration
 abbrev pub lowered_as : DeclareTree Text → Bool → Variable → Option (TypedTree Variable) → Option (InitialTree Variable) → StmtTree Variable
@@ -337,7 +339,7 @@ module _ (a : Plan) (d : DeclareTree Text) (made : DeclaredNode) (t : TypeNode) 
             let declares : Declares start.slots x PlainForm g = (fresh_slot, new-no_array ss new (begun_kind begun) of_kind single) in (
               is.type.fits_here start g,
               is.initial start (intents_in a) known,
-              subst (λ sort. Declares start.slots x sort g) (sym is.type.sort) declares,
+              subst (λ sort. MayDeclare start x sort g) (sym is.type.sort) declares,
               subst (λ sort. fits_given (resolving start) d.config x sort g) (sym is.type.sort) (given-fits start d.config x g owed declares),
               is.suits start (intents_in a) x known single (ap (λ (l : Variable). l.kind) leaf) (ap shape_by is-typed) kind declared-given,
               maps-fit ss known start (intents_in a) d.typed d.initial maps,

@@ -17,8 +17,8 @@ use Rattle.dpl_sound.specs.Typed.{HasType, type_at}
 use Rattle.dpl_lowered.specs.Shapes.{nowhere, hidden_item}
 use Rattle.dpl_lowered.specs.LoweredExpressions.{Times, Once, lowered_expr, lowered_item}
 use Rattle.dpl_lowered.specs.LoweredStatements.{lowered_side}
-use Rattle.dpl_words.specs.Words.{IntLeaf, TruthLeaf, RangeLeaf}
-use Rattle.dpl_memory.specs.Memory.{VariableKind, PlainKind, DomainKind, TupleKind, ArrayKind, Variable, known_variable}
+use Rattle.dpl_words.specs.Words.{IntLeaf, TruthLeaf, RangeLeaf, LocaleLeaf}
+use Rattle.dpl_memory.specs.Memory.{VariableKind, PlainKind, DomainKind, TupleKind, CellKind, ArrayKind, Variable, known_variable}
 use Rattle.dpl_memory.specs.Resolved.{Bound, Start, text_of, variable_of, resolving, HasShape, Suits}
 use Rattle.dpl_memory.proofs.Fitting.{expr_fits, item_fits}
 use Rattle.dpl_nodes.specs.declared.tree.BoolExpr.{BoolExpr}
@@ -60,9 +60,11 @@ item-shaped : (ss : Scopes) (i : ItemTree Text) (declared : ValueType) (k : Vari
 item-shaped ss i declared (PlainKind IntLeaf) v taken kind once typed = tt
 item-shaped ss i declared (PlainKind TruthLeaf) v taken kind once typed = tt
 item-shaped ss i declared (PlainKind RangeLeaf) v taken kind once typed = taken-shape declared taken.0 (PlainKind RangeLeaf) v kind refl taken.2 (typed taken.0 taken.1)
+item-shaped ss i declared (PlainKind LocaleLeaf) v taken kind once typed = taken-shape declared taken.0 (PlainKind LocaleLeaf) v kind refl taken.2 (typed taken.0 taken.1)
 item-shaped ss i declared DomainKind v taken kind once typed = taken-shape declared taken.0 DomainKind v kind refl taken.2 (typed taken.0 taken.1)
 item-shaped ss i declared TupleKind v taken kind once typed = taken-shape declared taken.0 TupleKind v kind refl taken.2 (typed taken.0 taken.1)
 item-shaped ss i declared (ArrayKind k) v taken kind once typed = absurd (let f : true ≡ false = once in cc)
+item-shaped ss i declared (CellKind c) v taken kind once typed = taken-shape declared taken.0 (CellKind c) v kind refl taken.2 (typed taken.0 taken.1)
 
 module _ (ss : Scopes) (i : ItemTree Text) where
   pub item-text : renamed_item text_of (renamed_item (bound_in ss) i) ≡ i

@@ -22,8 +22,8 @@ use Rattle.dpl_forms.specs.Heads.{names_in}
 use Rattle.dpl_scopes.specs.Slots.{next_slot_in}
 use Rattle.dpl_lowered.specs.Shapes.{nowhere, unplaced}
 use Rattle.dpl_lowered.specs.LoweredStatements.{lowered_variables}
-use Rattle.dpl_words.specs.Words.{IntLeaf, TruthLeaf, RangeLeaf}
-use Rattle.dpl_memory.specs.Memory.{VariableKind, PlainKind, DomainKind, TupleKind, ArrayKind, Variable, int_leaf}
+use Rattle.dpl_words.specs.Words.{IntLeaf, TruthLeaf, RangeLeaf, LocaleLeaf}
+use Rattle.dpl_memory.specs.Memory.{VariableKind, PlainKind, DomainKind, TupleKind, CellKind, ArrayKind, Variable, int_leaf}
 use Rattle.dpl_memory.specs.Resolved.{Bound, Start, text_of, variable_of, IsUnused, AreUnused, MayHold, SuitsTurns, resolving}
 use Rattle.dpl_nodes.specs.declared.step.Names.TheVariants as names
 use Rattle.dpl_nodes.specs.Steps.{unplaced_leaf, next_name}
@@ -60,9 +60,11 @@ turn-kind (OneVariable x) o h = one o h
     one (Some (PlainKind IntLeaf)) h = (PlainKind IntLeaf, refl, refl)
     one (Some (PlainKind TruthLeaf)) h = absurd h
     one (Some (PlainKind RangeLeaf)) h = absurd h
+    one (Some (PlainKind LocaleLeaf)) h = absurd h
     one (Some DomainKind) h = absurd h
     one (Some TupleKind) h = (TupleKind, refl, refl)
     one (Some (ArrayKind k)) h = absurd h
+    one (Some (CellKind k)) h = absurd h
 turn-kind (ManyVariables from xs upto) o h = (PlainKind IntLeaf, h, refl)
 
 -- ONE BEHIND THE OTHER

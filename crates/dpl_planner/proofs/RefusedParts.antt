@@ -20,8 +20,8 @@ use Rattle.dpl_scopes.specs.declared.value_type.ValueType.{ValueType as TypeNode
 use Rattle.dpl_scopes.specs.Types.{type_view, of_type}
 use Rattle.dpl_scopes.specs.declared.declared.Declared.{Declared as DeclaredNode}
 use Rattle.dpl_scopes.specs.View.{declared_view}
-use Rattle.dpl_words.specs.Words.{IntLeaf, TruthLeaf, RangeLeaf}
-use Rattle.dpl_memory.specs.Memory.{VariableKind, PlainKind, DomainKind, TupleKind, ArrayKind}
+use Rattle.dpl_words.specs.Words.{IntLeaf, TruthLeaf, RangeLeaf, LocaleLeaf}
+use Rattle.dpl_memory.specs.Memory.{VariableKind, PlainKind, DomainKind, TupleKind, CellKind, ArrayKind}
 use Rattle.dpl_typer.specs.declared.make.Typed.{Typed}
 use Rattle.dpl_typer.specs.Makers.{kind_of, is_promoted}
 use Rattle.dpl_nodes.specs.declared.placing.Placing.{Placing}
@@ -76,12 +76,14 @@ single-kind (PlainKind k) h e = tt
 single-kind DomainKind h e = tt
 single-kind TupleKind h e = absurd h
 single-kind (ArrayKind k) h e = absurd (let f : true ≡ false = e in cc)
+single-kind (CellKind c) h e = absurd h
 
 pub single-given : (k j : VariableKind) → IsSingleKind k → IsGivenTo k j → j ≡ k
 single-given (PlainKind k) j h e = e
 single-given DomainKind j h e = e
 single-given TupleKind j h e = absurd h
 single-given (ArrayKind k) j h e = absurd h
+single-given (CellKind c) j h e = absurd h
 
 pub given-kind : (ss : Scopes) (i : ItemTree Text) (t : Typed) (k j : VariableKind) → IsOfType t (item_type ss i) → IsSingleKind k → IsItemOf ss i j → IsGivenTo k j → kind_of t ≡ k
 given-kind ss i t k j of_type single is takes = item-kind ss i j t of_type is ∙ single-given k j single takes
@@ -91,21 +93,25 @@ pub changed-kind : (k : VariableKind) → IsAssignedKind k → is_promoted k ≡
 changed-kind (PlainKind IntLeaf) h e = tt
 changed-kind (PlainKind TruthLeaf) h e = tt
 changed-kind (PlainKind RangeLeaf) h e = absurd h
+changed-kind (PlainKind LocaleLeaf) h e = absurd h
 changed-kind DomainKind h e = tt
 changed-kind TupleKind h e = absurd h
 changed-kind (ArrayKind k) h e = absurd (let f : true ≡ false = e in cc)
+changed-kind (CellKind c) h e = absurd h
 
 pub changed-held : (k : VariableKind) → IsChangedKind k → IsSingleKind k
 changed-held (PlainKind k) h = tt
 changed-held DomainKind h = tt
 changed-held TupleKind h = absurd h
 changed-held (ArrayKind k) h = absurd h
+changed-held (CellKind c) h = absurd h
 
 pub unarrayed : (o : Option VariableKind) (k : VariableKind) → ((l : Kind) → o ≢ Some (ArrayKind l)) → o ≡ Some k → is_promoted k ≡ false
 unarrayed o (PlainKind k) none e = refl
 unarrayed o DomainKind none e = refl
 unarrayed o TupleKind none e = refl
 unarrayed o (ArrayKind k) none e = absurd (none k e)
+unarrayed o (CellKind c) none e = refl
 
 -- an assignment that runs, to what is no array's: what is assigned is of the name's kind
 pub single-change : (ss : Scopes) (is : List (Bound × Op)) (x : Text) (op : Assign) (value : ItemTree Text) (t : Typed) → ((k : Kind) → kind_in ss x ≢ Some (ArrayKind k)) → IsOfType t (item_type ss value)

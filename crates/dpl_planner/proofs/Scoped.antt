@@ -28,7 +28,7 @@ use Rattle.dpl_rules.proofs.Left.{leave_behind, leave_behind_all}
 use Rattle.dpl_sound.proofs.Given.{some-same, judged-gives, with_type-gives}
 use Rattle.dpl_scopes.specs.Slots.{count_in, next_slot_in}
 use Rattle.dpl_words.specs.Words.{IntLeaf, TruthLeaf, RangeLeaf}
-use Rattle.dpl_memory.specs.Memory.{VariableKind, PlainKind, DomainKind, TupleKind, ArrayKind}
+use Rattle.dpl_memory.specs.Memory.{VariableKind, PlainKind, DomainKind, TupleKind, CellKind, ArrayKind}
 use Rattle.dpl_memory.specs.Resolved.{Bound, Start, sighted, bind, domain_among, over_of, IsWhole, resolving}
 use Rattle.dpl_typer.specs.Makers.{is_promoted, kind_if}
 use Rattle.dpl_typer.specs.Leaves.{is_rank, value_kind, kind_by, leaf_by}
@@ -98,6 +98,7 @@ single-no_array (PlainKind k) e h = h
 single-no_array DomainKind e h = h
 single-no_array TupleKind e h = h
 single-no_array (ArrayKind k) e h = let f : true ≡ false = e in cc
+single-no_array (CellKind c) e h = h
 
 pub new-no_array : (ss : Scopes) (d : Declared) (k : VariableKind) → kind_by d.type ≡ Some k → is_promoted k ≡ false → IsWhole (bound_new ss d).variable.kind → ⊥
 new-no_array ss d k kind single = subst (λ o. IsWhole (leaf_by o (Some (next_slot_in ss))).kind → ⊥) (sym kind) (single-no_array k single)

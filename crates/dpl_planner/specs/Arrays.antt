@@ -9,7 +9,7 @@ use Rattle.dpl_agreement.specs.Scopes.{fits_whole_side, fits_initial, suits_arra
 use Rattle.dpl_rules.specs.Sights.{Scopes}
 use Rattle.dpl_lowered.specs.Shapes.{item_in_brackets}
 use Rattle.dpl_lowered.specs.LoweredStatements.{lowered_over, array_initial}
-use Rattle.dpl_memory.specs.Memory.{VariableKind, PlainKind, DomainKind, TupleKind, ArrayKind, Variable, known_variable}
+use Rattle.dpl_memory.specs.Memory.{VariableKind, PlainKind, DomainKind, TupleKind, CellKind, ArrayKind, Variable, known_variable}
 use Rattle.dpl_memory.specs.Resolved.{Bound, Start, text_of, variable_of, resolving}
 use Rattle.dpl_nodes.specs.Spots.{IsNear}
 use Rattle.dpl_nodes.specs.declared.step.DeclaredOver.{DeclaredOver}
@@ -54,6 +54,7 @@ IsArrayKind (Some (PlainKind k)) = ⊥
 IsArrayKind (Some DomainKind) = ⊥
 IsArrayKind (Some TupleKind) = ⊥
 IsArrayKind (Some (ArrayKind k)) = Unit {0}
+IsArrayKind (Some (CellKind c)) = ⊥
 
 abbrev pub IsNoArrayType : Option (TypeTree Text) → Type 0
 IsNoArrayType None = Unit {0}

@@ -10,7 +10,7 @@ use Rattle.dpl_rules.specs.Declarations.{declared_by}
 use Rattle.dpl_rules.specs.Loops.{LoopWord, ForWord, ForallWord, CoforallWord, typed_variable, over_type, in_loop, behind}
 use Rattle.dpl_rules.specs.Breaches.{top}
 use Rattle.dpl_scopes.specs.Slots.{next_slot_in}
-use Rattle.dpl_memory.specs.Memory.{VariableKind, PlainKind, DomainKind, TupleKind, ArrayKind, Variable}
+use Rattle.dpl_memory.specs.Memory.{VariableKind, PlainKind, DomainKind, TupleKind, CellKind, ArrayKind, Variable}
 use Rattle.dpl_memory.specs.Resolved.{Bound, arrays_over}
 use Rattle.dpl_typer.specs.Leaves.{leaf_in}
 use Rattle.dpl_typer.specs.Shapes.{shape_in}
@@ -37,9 +37,10 @@ arrays_at (PlainKind k) slot ss = []
 arrays_at DomainKind slot ss = arrays_over slot (sight_of ss)
 arrays_at TupleKind slot ss = []
 arrays_at (ArrayKind k) slot ss = []
+arrays_at (CellKind c) slot ss = []
 
 abbrev pub with_arrays : Scopes → Variable → Variable
-with_arrays ss x = record { kind = x.kind; slot = x.slot; along = arrays_at x.kind x.slot ss }
+with_arrays ss x = record { kind = x.kind; slot = x.slot; along = arrays_at x.kind x.slot ss; cells = [] }
 
 abbrev pub assigned_in : Scopes → Text → Bound
 assigned_in ss x = record { text = x; variable = with_arrays ss (leaf_in ss x); shape = shape_in ss x }

@@ -21,8 +21,8 @@ use Rattle.dpl_lowered.specs.Known.{may_be_whole}
 use Rattle.dpl_lowered.specs.Shapes.{nowhere, kept, placed}
 use Rattle.dpl_lowered.specs.LoweredExpressions.{Times, Once, lowered_expr, lowered_item}
 use Rattle.dpl_lowered.specs.LoweredStatements.{default_tree, mapped_initial, ranked_type, written_type, tells_name, declared_type, declared_initial, lowered_argument, lowered_variables}
-use Rattle.dpl_words.specs.Words.{IntLeaf, TruthLeaf, RangeLeaf}
-use Rattle.dpl_memory.specs.Memory.{VariableKind, PlainKind, DomainKind, TupleKind, ArrayKind, Variable, variable, known_kind, known_variable}
+use Rattle.dpl_words.specs.Words.{IntLeaf, TruthLeaf, RangeLeaf, LocaleLeaf}
+use Rattle.dpl_memory.specs.Memory.{VariableKind, PlainKind, DomainKind, TupleKind, CellKind, ArrayKind, Variable, variable, known_kind, known_variable}
 use Rattle.dpl_memory.specs.Resolved.{Bound, Seen, Start, text_of, variable_of, resolving}
 use Rattle.dpl_nodes.specs.declared.tree.BoolExpr.{BoolExpr}
 use Rattle.dpl_nodes.specs.declared.step.Argument.{Argument}
@@ -65,14 +65,17 @@ IsSingleKind (PlainKind k) = Unit {0}
 IsSingleKind DomainKind = Unit {0}
 IsSingleKind TupleKind = ⊥
 IsSingleKind (ArrayKind k) = ⊥
+IsSingleKind (CellKind c) = ⊥
 
 abbrev pub IsChangedKind : VariableKind → Type 0
 IsChangedKind (PlainKind IntLeaf) = Unit {0}
 IsChangedKind (PlainKind TruthLeaf) = Unit {0}
 IsChangedKind (PlainKind RangeLeaf) = ⊥
+IsChangedKind (PlainKind LocaleLeaf) = ⊥
 IsChangedKind DomainKind = Unit {0}
 IsChangedKind TupleKind = ⊥
 IsChangedKind (ArrayKind k) = ⊥
+IsChangedKind (CellKind c) = ⊥
 
 -- ASSIGNMENTS to a name, with its place where a fault tells it, and with the arrays that change with it
 abbrev pub changed_to : Scopes → Place → VariableKind → ℕ → Assign → Place → ItemTree Variable → StmtTree Variable
@@ -85,9 +88,11 @@ abbrev pub IsTakenBy : VariableKind → Scopes → ItemTree Text → ValueType �
 IsTakenBy (PlainKind IntLeaf) ss i t = Unit {0}
 IsTakenBy (PlainKind TruthLeaf) ss i t = Unit {0}
 IsTakenBy (PlainKind RangeLeaf) ss i t = IsTaken ss i t
+IsTakenBy (PlainKind LocaleLeaf) ss i t = IsTaken ss i t
 IsTakenBy DomainKind ss i t = IsTaken ss i t
 IsTakenBy TupleKind ss i t = IsTaken ss i t
 IsTakenBy (ArrayKind k) ss i t = Unit {0}
+IsTakenBy (CellKind c) ss i t = IsTaken ss i t
 
 abbrev pub IsTakenIn : VariableKind → Scopes → ItemTree Text → Option ValueType → Type 0
 IsTakenIn k ss i None = ⊥
@@ -259,9 +264,11 @@ IsTurnKind None = ⊥
 IsTurnKind (Some (PlainKind IntLeaf)) = Unit {0}
 IsTurnKind (Some (PlainKind TruthLeaf)) = ⊥
 IsTurnKind (Some (PlainKind RangeLeaf)) = ⊥
+IsTurnKind (Some (PlainKind LocaleLeaf)) = ⊥
 IsTurnKind (Some DomainKind) = ⊥
 IsTurnKind (Some TupleKind) = Unit {0}
 IsTurnKind (Some (ArrayKind k)) = ⊥
+IsTurnKind (Some (CellKind k)) = ⊥
 
 abbrev pub AreTurnKinds : VariablesTree Text → Option VariableKind → Type 0
 AreTurnKinds (OneVariable x) o = IsTurnKind o

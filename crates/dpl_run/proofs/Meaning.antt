@@ -102,7 +102,7 @@ declared-kind (Some t) k e = scalar-kind t k e
 -- A plan of a program that the sets fit, run from its first memory.
 module _ (t : ProgramTree Text) (sets : List (List ℕ)) (slots : ℕ) (scopes : Scopes) (steps : List Step) (plan : IsPlan t slots scopes steps) (fit : sets_fit (behind_all top t.stmts) [] sets ≡ true) where
   abbrev pub start : Start
-  start = record { slots = slots; texts = given t sets; words = words_in scopes sets }
+  start = record { slots = slots; cells = 0; texts = given t sets; words = words_in scopes sets; histories = None }
 
   alike : IsGivenAlike scopes start
   alike x k slot kind at =
@@ -125,14 +125,14 @@ module _ (t : ProgramTree Text) (sets : List (List ℕ)) (slots : ℕ) (scopes :
     ends : (histories : List (List Event)) → EndsAlike (StandsFor start (after_all (resolving start) plan.resolved.stmts first_seen)) (run_of t sets limits histories) (run_from limits in_memory (renamed_program variable_of plan.resolved) (first_memory start))
     ends histories =
         subst (λ p. EndsAlike (StandsFor start (after_all (resolving start) plan.resolved.stmts first_seen)) (meaning p (given t sets) limits histories) (run_from limits in_memory (renamed_program variable_of plan.resolved) (first_memory start)))
-        plan.text (meaning-memory start limits plan.resolved histories fits)
+        plan.text (meaning-memory start limits plan.resolved histories tt fits)
 
     -- what the names of the top level hold at the end
     leaves : (histories : List (List Event)) (last : Memory) (done : Deeds) → exec_all limits in_memory (steps_of steps) (first_memory start) no_deeds ≡ Done last done
         → option_map own_frame (left (run_of t sets limits histories)) ≡ Some (frame_in last (map (sighted_in scopes) (declared_names t.stmts)))
     leaves histories last done e =
         ap (λ p. option_map own_frame (left (meaning p (given t sets) limits histories))) (sym plan.text)
-        ∙ left-memory start limits plan.resolved histories fits
+        ∙ left-memory start limits plan.resolved histories tt fits
         ∙ ap (left_in (after_all (resolving start) plan.resolved.stmts first_seen).frames) (by_plan (Done last done) e)
         ∙ ap (λ fs. Some (frame_in last (names_in_order fs))) (plan.sight start ∙ ap sight_of plan.behind)
         ∙ ap (λ f. Some f) (names_in_order-declared last t.stmts (subst AreKnownScopes plan.behind plan.plain))

@@ -1,6 +1,6 @@
 -- What a plan of a program is to whoever runs it: its names resolved, its steps, and the scopes that it leaves.
 -- The planner promises each part of it by a clause of its own.
-use Rattle.std.specs.Prelude.{◌≡◌, ℕ, List, [], Some, option_map}
+use Rattle.std.specs.Prelude.{◌≡◌, ℕ, List, [], Some, None, option_map}
 use Rattle.dpl_language.specs.Tree.{ProgramTree}
 use Rattle.dpl_language.specs.Names.{Text, paired}
 use Rattle.dpl_agreement.specs.Renamed.{renamed_program}
@@ -26,7 +26,7 @@ IsGivenAlike scopes start =
 
 -- a run with so many slots, in which the sets give their words
 abbrev pub start_of : ℕ → Scopes → List (List ℕ) → Start
-start_of slots scopes sets = record { slots = slots; texts = []; words = words_in scopes sets }
+start_of slots scopes sets = record { slots = slots; cells = 0; texts = []; words = words_in scopes sets; histories = None }
 
 pub record IsPlan (t : ProgramTree Text) (slots : ℕ) (scopes : Scopes) (steps : List Step) : Type 0 where
   pub resolved : ProgramTree Bound

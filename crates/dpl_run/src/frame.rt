@@ -1,6 +1,6 @@
 // The frame that a run starts from: its slots, what the command line gives to them, and how locales are laid out.
 
-ghost use Rattle.std.specs.Prelude.{◌≡◌, ◌++◌, [], IfOk, OnOk};
+ghost use Rattle.std.specs.Prelude.{◌≡◌, ◌++◌, None, [], IfOk, OnOk};
 ghost use Rattle.dpl_memory.specs.Resolved.{first_memory};
 ghost use Rattle.dpl_frame.specs.Frames.{first_frame, with_memory, with_words};
 ghost use Rattle.dpl_run.specs.Settings.{limits_of, layout_of};
@@ -29,7 +29,7 @@ pub(crate) fn first_frame(
     words: &[(usize, i64)],
     config: &Config,
 ) -> Result<Frame, AllocError>
-    ensures { IfOk result (λ f. f ≡ with_memory (first_memory (record { slots = slots; texts = []; words = words.now }))
+    ensures { IfOk result (λ f. f ≡ with_memory (first_memory (record { slots = slots; cells = 0; texts = []; words = words.now; histories = None }))
         (first_frame slots (limits_of config.now) (layout_of config.now))) }
 {
     let mut frame = Frame::new(

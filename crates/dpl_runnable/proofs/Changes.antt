@@ -18,8 +18,8 @@ use Rattle.dpl_rules.specs.Assignments.{written_name, set_breaches, change_breac
 use Rattle.dpl_rules.proofs.Admission.{first_empty, second_empty}
 use Rattle.dpl_sound.proofs.Given.{some-same, both_so}
 use Rattle.dpl_sound.proofs.Known.{told-typed, post-told}
-use Rattle.dpl_words.specs.Words.{IntLeaf, TruthLeaf, RangeLeaf}
-use Rattle.dpl_memory.specs.Memory.{VariableKind, PlainKind, DomainKind, TupleKind, ArrayKind}
+use Rattle.dpl_words.specs.Words.{IntLeaf, TruthLeaf, RangeLeaf, LocaleLeaf}
+use Rattle.dpl_memory.specs.Memory.{VariableKind, PlainKind, DomainKind, TupleKind, CellKind, ArrayKind}
 use Rattle.dpl_memory.specs.Resolved.{Bound, kind_takes}
 use Rattle.dpl_typer.specs.Makers.{leaf_of}
 use Rattle.dpl_typer.specs.Leaves.{value_kind, kind_by, type_in, kind_in}
@@ -59,9 +59,11 @@ scalar_kind-takes : (k : VariableKind) → IsScalarKind k → kind_takes k SetRe
 scalar_kind-takes (PlainKind IntLeaf) h = refl
 scalar_kind-takes (PlainKind TruthLeaf) h = refl
 scalar_kind-takes (PlainKind RangeLeaf) h = absurd h
+scalar_kind-takes (PlainKind LocaleLeaf) h = absurd h
 scalar_kind-takes DomainKind h = absurd h
 scalar_kind-takes TupleKind h = absurd h
 scalar_kind-takes (ArrayKind l) h = absurd h
+scalar_kind-takes (CellKind c) h = absurd h
 
 -- a side of a type and its kind, and the target's kind
 module _ (at : Place) (side : Part) (u : ValueType) (is : side.type ≡ Some u) (j : VariableKind) (of_kind : value_kind u ≡ Some j) (k : VariableKind) where

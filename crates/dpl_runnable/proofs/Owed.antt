@@ -10,7 +10,7 @@ use Rattle.dpl_rules.specs.Types.{Over, ValueType, Scalar, Range, Domain, Array,
 use Rattle.dpl_rules.specs.Verdicts.{owed, owed_type}
 use Rattle.dpl_words.specs.Words.{IntLeaf, TruthLeaf}
 use Rattle.dpl_sound.proofs.Given.{both_so}
-use Rattle.dpl_memory.specs.Memory.{VariableKind, PlainKind, DomainKind, TupleKind, ArrayKind}
+use Rattle.dpl_memory.specs.Memory.{VariableKind, PlainKind, DomainKind, TupleKind, CellKind, ArrayKind}
 use Rattle.dpl_typer.specs.Makers.{leaf_of}
 use Rattle.dpl_typer.specs.Leaves.{is_rank, value_kind}
 use Rattle.dpl_typer.proofs.OperatorKinds.{kind-same, kind_if-some}
@@ -82,6 +82,7 @@ same-given (PlainKind l) j e = e
 same-given DomainKind j e = e
 same-given TupleKind j e = e
 same-given (ArrayKind l) j e = inl e
+same-given (CellKind c) j e = e
 
 pub scalar-leaf : (l : Kind) → value_kind (Scalar l) ≡ Some (PlainKind (leaf_of l))
 scalar-leaf IntKind = refl

@@ -4,8 +4,8 @@ use Rattle.std.specs.Prelude.{◌≡◌, ◌⊎◌, false, Option, Some}
 use Rattle.dpl_language.specs.Names.{Text}
 use Rattle.dpl_rules.specs.Types.{ValueType}
 use Rattle.dpl_rules.specs.Sights.{Declared, Scopes, lookup}
-use Rattle.dpl_words.specs.Words.{IntLeaf, TruthLeaf, RangeLeaf}
-use Rattle.dpl_memory.specs.Memory.{VariableKind, PlainKind, DomainKind, TupleKind, ArrayKind}
+use Rattle.dpl_words.specs.Words.{IntLeaf, TruthLeaf, RangeLeaf, LocaleLeaf}
+use Rattle.dpl_memory.specs.Memory.{VariableKind, PlainKind, DomainKind, TupleKind, CellKind, ArrayKind}
 use Rattle.dpl_typer.specs.Makers.{leaf_of}
 use Rattle.dpl_typer.specs.Leaves.{value_kind}
 use Rattle.dpl_typer.specs.Sights.{is_promoted_type}
@@ -34,9 +34,11 @@ abbrev pub IsScalarKind : VariableKind → Type 0
 IsScalarKind (PlainKind IntLeaf) = Unit {0}
 IsScalarKind (PlainKind TruthLeaf) = Unit {0}
 IsScalarKind (PlainKind RangeLeaf) = ⊥
+IsScalarKind (PlainKind LocaleLeaf) = ⊥
 IsScalarKind DomainKind = ⊥
 IsScalarKind TupleKind = ⊥
 IsScalarKind (ArrayKind k) = ⊥
+IsScalarKind (CellKind c) = ⊥
 
 -- what a declaration gives a name: all but tuples, which loops alone have
 abbrev pub IsDeclaredKind : VariableKind → Type 0
@@ -44,15 +46,18 @@ IsDeclaredKind (PlainKind k) = Unit {0}
 IsDeclaredKind DomainKind = Unit {0}
 IsDeclaredKind TupleKind = ⊥
 IsDeclaredKind (ArrayKind k) = Unit {0}
+IsDeclaredKind (CellKind c) = ⊥
 
 -- what is assigned: ints, truth values, domains and whole arrays
 abbrev pub IsAssignedKind : VariableKind → Type 0
 IsAssignedKind (PlainKind IntLeaf) = Unit {0}
 IsAssignedKind (PlainKind TruthLeaf) = Unit {0}
 IsAssignedKind (PlainKind RangeLeaf) = ⊥
+IsAssignedKind (PlainKind LocaleLeaf) = ⊥
 IsAssignedKind DomainKind = Unit {0}
 IsAssignedKind TupleKind = ⊥
 IsAssignedKind (ArrayKind k) = Unit {0}
+IsAssignedKind (CellKind c) = ⊥
 
 -- a name of the first kind is given a value of the second: one of its own, and a whole array also one that each element may be
 abbrev pub IsGivenTo : VariableKind → VariableKind → Type 0
@@ -60,3 +65,4 @@ IsGivenTo (PlainKind l) k = k ≡ PlainKind l
 IsGivenTo DomainKind k = k ≡ DomainKind
 IsGivenTo TupleKind k = k ≡ TupleKind
 IsGivenTo (ArrayKind l) k = (k ≡ ArrayKind l) ⊎ (k ≡ PlainKind (leaf_of l))
+IsGivenTo (CellKind c) k = k ≡ (CellKind c)

@@ -17,8 +17,8 @@ use Rattle.dpl_rules.specs.Expressions.{type_of, item_type, item_parts, expr_par
 use Rattle.dpl_rules.specs.Declarations.{declared_by}
 use Rattle.dpl_rules.specs.Loops.{ForWord, ForallWord, fits_variables, in_loop, behind, each_once, variables_of}
 use Rattle.dpl_scopes.specs.Slots.{slot_in}
-use Rattle.dpl_words.specs.Words.{IntLeaf, TruthLeaf, RangeLeaf}
-use Rattle.dpl_memory.specs.Memory.{VariableKind, PlainKind, DomainKind, TupleKind, ArrayKind}
+use Rattle.dpl_words.specs.Words.{IntLeaf, TruthLeaf, RangeLeaf, LocaleLeaf}
+use Rattle.dpl_memory.specs.Memory.{VariableKind, PlainKind, DomainKind, TupleKind, CellKind, ArrayKind}
 use Rattle.dpl_memory.specs.Resolved.{Bound, text_of, kind_takes, KindCombines}
 use Rattle.dpl_spelling.specs.Spelt.{ExprSpelt, ItemSpelt, ItemsSpelt, ExprsSpelt}
 use Rattle.dpl_nodes.specs.Spots.{IsNear}
@@ -165,9 +165,11 @@ abbrev pub IsShown : VariableKind → ExprTree Text → Type 0
 IsShown (PlainKind IntLeaf) e = Unit {0}
 IsShown (PlainKind TruthLeaf) e = Unit {0}
 IsShown (PlainKind RangeLeaf) e = ⊥
+IsShown (PlainKind LocaleLeaf) e = ⊥
 IsShown DomainKind e = ⊥
 IsShown TupleKind e = ⊥
 IsShown (ArrayKind k) e = (x : Placed Text) × (e ≡ Named x)
+IsShown (CellKind c) e = ⊥
 
 pub record IsPrinted (ss : Scopes) (e : ExprTree Text) : Type 0 where
   pub kind : VariableKind

@@ -17,7 +17,7 @@ use Rattle.dpl_apart.proofs.Memories.{map-same, words-length, held-arrays, held-
 use Rattle.dpl_apart.proofs.ReduceWords.{reduce_words}
 use Rattle.dpl_turns.specs.Alongside.{slots_of, words_at, put_in, slots_in, begun, ArraysAlong, NumbersAlong, ValuesAlong, IsAlongside}
 use Rattle.dpl_turns.proofs.Lists.{values-length, value-other, word-other, put-length, put-alike, put-other}
-use Rattle.dpl_turns.proofs.Ends.{exact-length, kept-slots, last-roots}
+use Rattle.dpl_turns.proofs.Ends.{exact-length, kept-slots, last-rest}
 
 -- ---- a memory that holds rows, but for what the last turn has left
 module _ (h : Changes) (b : Memory) (rows : Index → Row) (a : List ℤ) where
@@ -144,7 +144,7 @@ module _ (h : Changes) (t : Index) (first second : Memory) (formed_first : IsFor
         (λ j none. like.tuples j none ∙ sym (last-tuple h second rows words last j none)) (last-tuple h second rows words last)
         (like.tuple_slots ∙ sym (tuple_slots-held h second rows words last)) (tuple_slots-held h second rows words last);
     domains = (like.domains ∙ sym (last-domains h second rows words last), last-domains h second rows words last);
-    roots = like.roots ∙ sym (last-roots h second rows words last);
+    rest = like.rest ∙ sym (last-rest h second rows words last);
     intents = (like.intents ∙ sym (last-intents h second rows words last), last-intents h second rows words last);
     sets = (like.sets ∙ sym (last-sets h second rows words last), last-sets h second rows words last);
   }
@@ -177,7 +177,7 @@ module _ (h : Changes) (t : Index) (first second : Memory) (formed_first : IsFor
     ranges = along.ranges;
     tuples = along.tuples;
     domains = along.domains;
-    roots = along.roots;
+    rest = along.rest;
     intents = along.intents;
     sets = along.sets;
   }

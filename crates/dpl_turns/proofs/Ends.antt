@@ -9,7 +9,7 @@ use Rattle.dpl_language.specs.Values.{Index, Fault}
 use Rattle.dpl_language.specs.Ranges.{same_index}
 use Rattle.dpl_language.specs.Outcome.{Deeds, no_deeds, Outcome, Done, Stop, Waits, Run}
 use Rattle.dpl_words.specs.Words.{no_range}
-use Rattle.dpl_memory.specs.Memory.{Held, Memory, no_tuple, no_array, array_at, held_at, word_at, is_among}
+use Rattle.dpl_memory.specs.Memory.{Held, Memory, no_tuple, no_array, array_at, held_at, word_at, is_among, rest_of}
 use Rattle.dpl_agreement.specs.Agreement.{EndsAlike}
 use Rattle.dpl_apart.specs.Operands.{all_combined, unit_words, AreExact}
 use Rattle.dpl_apart.specs.Rows.{Leaves, with_row, Adds}
@@ -20,7 +20,7 @@ use Rattle.dpl_apart.proofs.Indices.{same_index-refl, same_index-sound}
 use Rattle.dpl_apart.proofs.Memories.{map-same, element-here, element-length, word-found, words-length}
 use Rattle.dpl_apart.proofs.Rejoined.{or-true}
 use Rattle.dpl_apart.proofs.ReduceWords.{reduce_words}
-use Rattle.dpl_turns.specs.Alongside.{slots_of, words_at, ValuesAlong, IsAlongside, KeepsRoots, IsQuiet}
+use Rattle.dpl_turns.specs.Alongside.{slots_of, words_at, ValuesAlong, IsAlongside, KeepsRest, IsQuiet}
 use Rattle.dpl_turns.proofs.Lists.{values-length, value-among, value-other, own-words, words-alike}
 
 -- ---- slots
@@ -114,7 +114,7 @@ like-itself h t b = record {
   domains = refl;
   intents = refl;
   sets = refl;
-  roots = refl;
+  rest = refl;
 }
 
 -- ---- values that go along
@@ -129,7 +129,7 @@ values-end {A} d slots kept xs ys value along left =
         ap (λ xs. get_or xs j d) (sym along.same) ∙ sym (left j e) ∙ sym (value-among slots value kept j d e (omega (arith, within, long)))
     by j false e within = along.stay j e ∙ sym (value-other slots value kept j d e)
 
-module _ (h : Changes) (b : Memory) (formed : IsFormed h b) (t : Index) (rows : Index → Row) (words : List ℤ) (s u : Memory) (along : IsAlongside h t b b rows words s u) (kept_roots : u.roots ≡ b.roots) where
+module _ (h : Changes) (b : Memory) (formed : IsFormed h b) (t : Index) (rows : Index → Row) (words : List ℤ) (s u : Memory) (along : IsAlongside h t b b rows words s u) (kept : rest_of u ≡ rest_of b) where
   abbrev left : Row
   left = row_in h s t
 
@@ -191,7 +191,7 @@ module _ (h : Changes) (b : Memory) (formed : IsFormed h b) (t : Index) (rows : 
         let tuples = values-end no_tuple h.tuples b.tuples s.tuples u.tuples left.tuples along.tuples (λ j e. ap (λ c. if c then get_or s.tuples j no_tuple else no_tuple) e) in
         let arrays = arrays-end in
         let domains = along.domains.1 in
-        let roots = kept_roots in
+        let rest = kept in
         let intents = along.intents.1 in
         let sets = along.sets.1 in
         λ i. record {
@@ -199,7 +199,10 @@ module _ (h : Changes) (b : Memory) (formed : IsFormed h b) (t : Index) (rows : 
           domains = domains i;
           tuples = tuples i;
           arrays = arrays i;
-          roots = roots i;
+          roots = (rest i).roots;
+          cells = (rest i).cells;
+          here = (rest i).here;
+          coming = (rest i).coming;
         }
 
 -- ---- what both memories have
@@ -238,7 +241,7 @@ module _ (h : Changes) (t : Index) (first second : Memory) (formed_first : IsFor
     domains = along.domains.0;
     intents = along.intents.0;
     sets = along.sets.0;
-    roots = along.roots;
+    rest = along.rest;
   }
 
 module _ (h : Changes) (t : Index) (first second : Memory) (formed_first : IsFormed h first) (formed : IsFormed h second) (like : IsLike h t first second) (rows : Index → Row) (s u : Memory) (along : IsAlongside h t first second rows (unit_words (operators_of h.reduced)) s u) where
@@ -277,13 +280,13 @@ stopped-same : (r : Result Memory Fault) (f : Fault) (done : Deeds) → worker_e
 stopped-same (Ok v) f done e = absurd cc
 stopped-same (Err g) f done e = let same : g ≡ f = cc in ap (λ f. Stop f done) same
 
-kept-roots : (r : Result Memory Fault) (s u : Memory) → worker_end r no_deeds ≡ Done u no_deeds → KeepsRoots s r → u.roots ≡ s.roots
-kept-roots (Ok v) s u e kept = let same : v ≡ u = cc in ap (λ (m : Memory). m.roots) (sym same) ∙ kept
-kept-roots (Err f) s u e kept = absurd cc
+kept-rest : (r : Result Memory Fault) (s u : Memory) → worker_end r no_deeds ≡ Done u no_deeds → KeepsRest s r → rest_of u ≡ rest_of s
+kept-rest (Ok v) s u e kept = let same : v ≡ u = cc in ap rest_of (sym same) ∙ kept
+kept-rest (Err f) s u e kept = absurd cc
 
-pub last-roots : (h : Changes) (b : Memory) (rows : Index → Row) (a : List ℤ) (last : Option Index) → (held_in h b last rows a).roots ≡ b.roots
-last-roots h b rows a None = refl
-last-roots h b rows a (Some t) = refl
+pub last-rest : (h : Changes) (b : Memory) (rows : Index → Row) (a : List ℤ) (last : Option Index) → rest_of (held_in h b last rows a) ≡ rest_of b
+last-rest h b rows a None = refl
+last-rest h b rows a (Some t) = refl
 
 -- Turns that see an index each, which is their own where it is one of the loop's rank, and do the same in two memories that go along.
 module _ (h : Changes) (turn : Index → Run Memory) (own : Index → Index) (owned : (t : Index) → IsOfRank h t → own t ≡ t) (quiet : (t : Index) → IsQuiet (turn t))
@@ -303,10 +306,10 @@ module _ (h : Changes) (turn : Index → Run Memory) (own : Index → Index) (ow
       s2 : Memory
       s2 = held_in h b last rows words
 
-      r1 : (r : Result Memory Fault) × ((done : Deeds) → turn t s1 done ≡ worker_end r done) × KeepsRoots s1 r
+      r1 : (r : Result Memory Fault) × ((done : Deeds) → turn t s1 done ≡ worker_end r done) × KeepsRest s1 r
       r1 = quiet t s1
 
-      r2 : (r : Result Memory Fault) × ((done : Deeds) → turn t s2 done ≡ worker_end r done) × KeepsRoots s2 r
+      r2 : (r : Result Memory Fault) × ((done : Deeds) → turn t s2 done ≡ worker_end r done) × KeepsRest s2 r
       r2 = quiet t s2
 
       ends : EndsAlike (IsAlongside h t b b rows words) (turn t s1 no_deeds) (turn t s2 no_deeds)
@@ -314,13 +317,13 @@ module _ (h : Changes) (turn : Index → Run Memory) (own : Index → Index) (ow
           subst (λ x. EndsAlike (IsAlongside h x b b rows words) (turn t s1 no_deeds) (turn t s2 no_deeds)) (owned t of_rank)
           (along t b b formed formed (like-itself h (own t) b) last rows (rows t) words (ap rows (owned t of_rank)) exact)
 
-      by : (p q : Result Memory Fault) → ((done : Deeds) → turn t s1 done ≡ worker_end p done) → ((done : Deeds) → turn t s2 done ≡ worker_end q done) → KeepsRoots s2 q
+      by : (p q : Result Memory Fault) → ((done : Deeds) → turn t s1 done ≡ worker_end p done) → ((done : Deeds) → turn t s2 done ≡ worker_end q done) → KeepsRest s2 q
           → EndsAlike (IsAlongside h t b b rows words) (turn t s1 no_deeds) (turn t s2 no_deeds)
           → turn t s2 done ≡ turn_left (held_in h b) (all_combined (operators_of h.reduced)) t rows words done (turned_in h t (rows t) (turn t s1 no_deeds))
       by (Ok u1) q e1 e2 kept alike =
           let its : EndsAlike (IsAlongside h t b b rows words) (Done u1 no_deeds) (turn t s2 no_deeds) = subst (λ o. EndsAlike (IsAlongside h t b b rows words) o (turn t s2 no_deeds)) (e1 no_deeds) alike in
           e2 done ∙ ended-same q its.0 done (sym (e2 no_deeds) ∙ its.2)
-          ∙ ap (λ u. Done u done) (holds-left h b formed t rows words u1 its.0 its.1 (kept-roots q s2 its.0 (sym (e2 no_deeds) ∙ its.2) kept ∙ last-roots h b rows words last))
+          ∙ ap (λ u. Done u done) (holds-left h b formed t rows words u1 its.0 its.1 (kept-rest q s2 its.0 (sym (e2 no_deeds) ∙ its.2) kept ∙ last-rest h b rows words last))
           ∙ sym (ap (λ o. turn_left (held_in h b) (all_combined (operators_of h.reduced)) t rows words done (turned_in h t (rows t) o)) (e1 no_deeds))
       by (Err f) q e1 e2 kept alike =
           let its : EndsAlike (IsAlongside h t b b rows words) (Stop f no_deeds) (turn t s2 no_deeds) = subst (λ o. EndsAlike (IsAlongside h t b b rows words) o (turn t s2 no_deeds)) (e1 no_deeds) alike in

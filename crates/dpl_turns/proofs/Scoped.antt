@@ -5,15 +5,15 @@ use Rattle.std.proofs.lemmas.Bool.Decides.{nat_tests}
 use Rattle.std.proofs.lemmas.List.{append-nil, get_or-set_other, length-set}
 use Rattle.dpl_sets.specs.TextRanges.{TextRange}
 use Rattle.dpl_language.specs.Tree.{Op, Assign, Kind, Items}
-use Rattle.dpl_language.specs.Values.{Value, Int, Range, Domain, Array, Tuple, Index, Fault, index_of, coordinates, number, kept_number, ranges_in, array_domain, is_domain}
+use Rattle.dpl_language.specs.Values.{Value, Int, Range, Locale, Domain, Array, Tuple, Index, Fault, index_of, coordinates, number, kept_number, ranges_in, array_domain, is_domain}
 use Rattle.dpl_language.specs.Arithmetic.{assigned}
 use Rattle.dpl_language.specs.Ranges.{indices_in, loop_ranges}
 use Rattle.dpl_language.specs.Distributions.{Root}
 use Rattle.dpl_language.specs.Outcome.{with_ok}
 use Rattle.dpl_language.specs.Environment.{Content, Plain, ArrayOf, CellOf, Limits}
 use Rattle.dpl_language.specs.Expressions.{items_of, more_items}
-use Rattle.dpl_words.specs.Words.{IntLeaf, TruthLeaf, RangeLeaf, is_true, no_range, first_range, intent_at}
-use Rattle.dpl_memory.specs.Memory.{VariableKind, PlainKind, DomainKind, TupleKind, ArrayKind, Variable, int_leaf, truth_leaf, Memory, no_domain, no_tuple, array_at, held_at, element_as, value_in, with_value_in, element_in, with_element_in, undealt, root_in, with_root, anew, is_among, in_memory}
+use Rattle.dpl_words.specs.Words.{IntLeaf, TruthLeaf, RangeLeaf, LocaleLeaf, is_true, no_range, first_range, intent_at}
+use Rattle.dpl_memory.specs.Memory.{VariableKind, PlainKind, DomainKind, TupleKind, CellKind, ArrayKind, Variable, int_leaf, truth_leaf, Memory, Rest, no_domain, no_tuple, array_at, held_at, element_as, value_in, with_value_in, element_in, with_element_in, undealt, root_in, with_root, anew, is_among, in_memory}
 use Rattle.dpl_agreement.specs.Scopes.{form_of}
 use Rattle.dpl_agreement.specs.Renamed.{renamed_content}
 use Rattle.dpl_agreement.specs.Agreement.{Simulates}
@@ -145,33 +145,41 @@ module _ (limits : Limits) (h : Changes) (own : OwnNames) (t : Index) (first sec
   gets (PlainKind IntLeaf) slot s u r e = ap (λ w. Int w) (r.0.numbers.same slot e)
   gets (PlainKind TruthLeaf) slot s u r e = ap is_true (r.0.numbers.same slot e)
   gets (PlainKind RangeLeaf) slot s u r e = ap (λ rs. Range (get_or rs slot no_range)) r.0.ranges.same
+  gets (PlainKind LocaleLeaf) slot s u r e = ap (λ w. Locale w) (r.0.numbers.same slot e)
   gets DomainKind slot s u r e = ap (λ ds. Domain (get_or ds slot no_domain)) r.0.domains.0
   gets TupleKind slot s u r e = ap (λ ts. Tuple (get_or ts slot no_tuple)) r.0.tuples.same
   gets (ArrayKind k) slot s u r e = ap (λ rs. Array k rs) (domains-along h t first second formed_first formed like rows words s u r.0 slot)
+  gets (CellKind k) slot s u r e = refl
 
   whole-targets : (k : VariableKind) (slot : ℕ) (s u : Memory) → GoAlong tt s u → array_domain (value_in k slot s) ≡ array_domain (value_in k slot u)
   whole-targets (PlainKind IntLeaf) slot s u r = refl
   whole-targets (PlainKind TruthLeaf) slot s u r = refl
   whole-targets (PlainKind RangeLeaf) slot s u r = refl
+  whole-targets (PlainKind LocaleLeaf) slot s u r = refl
   whole-targets DomainKind slot s u r = refl
   whole-targets TupleKind slot s u r = refl
   whole-targets (ArrayKind k) slot s u r = ap (λ rs. Some rs) (domains-along h t first second formed_first formed like rows words s u r.0 slot)
+  whole-targets (CellKind c) slot s u r = refl
 
   domain-targets : (k : VariableKind) (slot : ℕ) (s u : Memory) → is_domain (value_in k slot s) ≡ is_domain (value_in k slot u)
   domain-targets (PlainKind IntLeaf) slot s u = refl
   domain-targets (PlainKind TruthLeaf) slot s u = refl
   domain-targets (PlainKind RangeLeaf) slot s u = refl
+  domain-targets (PlainKind LocaleLeaf) slot s u = refl
   domain-targets DomainKind slot s u = refl
   domain-targets TupleKind slot s u = refl
   domain-targets (ArrayKind k) slot s u = refl
+  domain-targets (CellKind c) slot s u = refl
 
   no-domain : (k : VariableKind) (slot : ℕ) (op : Assign) (s : Memory) → may_assign h own k slot op ≡ true → is_domain (value_in k slot s) ≡ true → ⊥
   no-domain (PlainKind IntLeaf) slot op s may is = cc
   no-domain (PlainKind TruthLeaf) slot op s may is = cc
   no-domain (PlainKind RangeLeaf) slot op s may is = cc
+  no-domain (PlainKind LocaleLeaf) slot op s may is = cc
   no-domain DomainKind slot op s may is = cc
   no-domain TupleKind slot op s may is = cc
   no-domain (ArrayKind k) slot op s may is = cc
+  no-domain (CellKind c) slot op s may is = cc
 
   -- a number that is put to both
   with-numbers : (s u : Memory) (slot : ℕ) (y z : ℤ) → GoAlong tt s u → is_among slot (own_slots own) ≡ false
@@ -184,7 +192,7 @@ module _ (limits : Limits) (h : Changes) (own : OwnNames) (t : Index) (first sec
       ranges = r.0.ranges;
       tuples = r.0.tuples;
       domains = r.0.domains;
-      roots = r.0.roots;
+      rest = r.0.rest;
       intents = r.0.intents;
       sets = r.0.sets;
     },
@@ -217,7 +225,7 @@ module _ (limits : Limits) (h : Changes) (own : OwnNames) (t : Index) (first sec
       ranges = values-put no_range h.ranges second.words.ranges s.words.ranges u.words.ranges slot v w (and-both (is_among slot h.ranges) (not (is_among slot (own_slots own))) begins).0 e r.0.ranges;
       tuples = r.0.tuples;
       domains = r.0.domains;
-      roots = r.0.roots;
+      rest = r.0.rest;
       intents = r.0.intents;
       sets = r.0.sets;
     },
@@ -234,7 +242,7 @@ module _ (limits : Limits) (h : Changes) (own : OwnNames) (t : Index) (first sec
           ranges = r.0.ranges;
           tuples = values-put no_tuple h.tuples second.tuples s.tuples u.tuples slot v v both.0 refl r.0.tuples;
           domains = r.0.domains;
-          roots = r.0.roots;
+          rest = r.0.rest;
           intents = r.0.intents;
           sets = r.0.sets;
         },
@@ -285,9 +293,11 @@ module _ (limits : Limits) (h : Changes) (own : OwnNames) (t : Index) (first sec
     by true begins may = begun-number s u slot _ _ r begins (ap kept_number (assigned-same (PlainKind TruthLeaf) slot op v s u r (begins-apart slot begins)))
     by false begins may = added-truth s u slot op v (intent_at slot h.reduced) r refl may
   updates (PlainKind RangeLeaf) slot op v s u r may = begun-range s u slot _ _ r may (ap (λ v. first_range (ranges_in v)) (assigned-same (PlainKind RangeLeaf) slot op v s u r refl))
+  updates (PlainKind LocaleLeaf) slot op v s u r may = begun-number s u slot _ _ r may (ap number (assigned-same (PlainKind LocaleLeaf) slot op v s u r (begins-apart slot may)))
   updates DomainKind slot op v s u r may = absurd cc
   updates TupleKind slot op v s u r may = absurd cc
   updates (ArrayKind k) slot op v s u r may = r
+  updates (CellKind c) slot op v s u r may = absurd cc
 
   -- ---- elements
   element-same : (slot : ℕ) (i : Index) (s u : Memory) → GoAlong tt s u → (is_among slot h.written ≡ true → i ≡ t) → held_at i (array_at slot s) ≡ held_at i (array_at slot u)
@@ -301,6 +311,7 @@ module _ (limits : Limits) (h : Changes) (own : OwnNames) (t : Index) (first sec
   elements-at DomainKind slot i s u r may = refl
   elements-at TupleKind slot i s u r may = refl
   elements-at (ArrayKind k) slot i s u r may = ap (option_map (element_as k)) (element-same slot i s u r may)
+  elements-at (CellKind c) slot i s u r may = refl
 
   elements : (k : VariableKind) (slot : ℕ) (items : Items Variable) (vs : List Value) (s u : Memory) → GoAlong tt s u → ReadsElement h own k slot items → items_of limits in_memory items u ≡ Ok vs
       → element_in k slot (index_of vs) s ≡ element_in k slot (index_of vs) u
@@ -308,6 +319,7 @@ module _ (limits : Limits) (h : Changes) (own : OwnNames) (t : Index) (first sec
   elements DomainKind slot items vs s u r may given = refl
   elements TupleKind slot items vs s u r may given = refl
   elements (ArrayKind k) slot items vs s u r may given = ap (option_map (element_as k)) (element-same slot (index_of vs) s u r (λ e. own-index limits own t items vs u (may e) r.1 given))
+  elements (CellKind c) slot items vs s u r may given = refl
 
   puts-array : (k : Kind) (slot : ℕ) (i : Index) (v : Value) (s u : Memory) → GoAlong tt s u → is_among slot h.written ≡ true → i ≡ t
       → GoAlong tt (with_element_in (ArrayKind k) slot i v s) (with_element_in (ArrayKind k) slot i v u)
@@ -320,6 +332,7 @@ module _ (limits : Limits) (h : Changes) (own : OwnNames) (t : Index) (first sec
   puts-at DomainKind slot i v s u r may = r
   puts-at TupleKind slot i v s u r may = r
   puts-at (ArrayKind k) slot i v s u r may = puts-array k slot i v s u r may.0 may.1
+  puts-at (CellKind c) slot i v s u r may = r
 
   puts : (k : VariableKind) (slot : ℕ) (items : Items Variable) (vs : List Value) (v : Value) (s u : Memory) → GoAlong tt s u → AssignsElement h own k slot items → items_of limits in_memory items u ≡ Ok vs
       → GoAlong tt (with_element_in k slot (index_of vs) v s) (with_element_in k slot (index_of vs) v u)
@@ -327,6 +340,7 @@ module _ (limits : Limits) (h : Changes) (own : OwnNames) (t : Index) (first sec
   puts DomainKind slot items vs v s u r may given = r
   puts TupleKind slot items vs v s u r may given = r
   puts (ArrayKind k) slot items vs v s u r may given = puts-array k slot (index_of vs) v s u r may.0 (own-index limits own t items vs u may.1 r.1 given)
+  puts (CellKind c) slot items vs v s u r may given = r
 
   -- ---- declarations
   declares-value : (k : VariableKind) (slot : ℕ) (along : List ℕ) (v : Value) (s u : Memory) → GoAlong tt s u → (begins_anew h own k slot && is_none along) ≡ true
@@ -336,9 +350,11 @@ module _ (limits : Limits) (h : Changes) (own : OwnNames) (t : Index) (first sec
   declares-value (PlainKind TruthLeaf) slot [] v s u r may = begun-number s u slot (kept_number v) (kept_number v) r (and-both (begins_anew h own (PlainKind TruthLeaf) slot) true may).0 refl
   declares-value (PlainKind RangeLeaf) slot [] v s u r may =
       begun-range s u slot (first_range (ranges_in v)) (first_range (ranges_in v)) r (and-both (begins_anew h own (PlainKind RangeLeaf) slot) true may).0 refl
+  declares-value (PlainKind LocaleLeaf) slot [] v s u r may = begun-number s u slot (number v) (number v) r (and-both (begins_anew h own (PlainKind LocaleLeaf) slot) true may).0 refl
   declares-value DomainKind slot [] v s u r may = absurd cc
   declares-value TupleKind slot [] v s u r may = begun-tuple s u slot (coordinates v) r (and-both (begins_anew h own TupleKind slot) true may).0
   declares-value (ArrayKind k) slot [] v s u r may = absurd cc
+  declares-value (CellKind k) slot [] v s u r may = absurd cc
 
   declares : (x : Variable) (c : Content Variable) (s u : Memory) → GoAlong tt s u → may_declare h own x (form_of c) ≡ true
       → GoAlong tt (in_memory.declare x (renamed_content (λ x. x) c) s) (in_memory.declare x c u)
@@ -354,7 +370,7 @@ module _ (limits : Limits) (h : Changes) (own : OwnNames) (t : Index) (first sec
       ranges = r.0.ranges;
       tuples = r.0.tuples;
       domains = r.0.domains;
-      roots = ap (λ rs. set rs slot root) r.0.roots;
+      rest = ap (λ (m : Rest). record m { roots = set m.roots slot root }) r.0.rest;
       intents = r.0.intents;
       sets = r.0.sets;
     },
@@ -374,7 +390,7 @@ module _ (limits : Limits) (h : Changes) (own : OwnNames) (t : Index) (first sec
     puts_at = λ x i v g s u r f held. puts-at x.kind x.slot i v s u r f;
     puts = λ x items vs v g s u r f given held. puts x.kind x.slot items vs v s u r f given;
     declares = λ x c g s u r f held. declares x c s u r f.0;
-    roots = λ x g s u r f d. ap (root_in x.kind x.slot) r.0.roots;
+    roots = λ x g s u r f d. ap (λ (m : Rest). root_in x.kind x.slot m.roots) r.0.rest;
     deals = λ x root g s u r f d. deals x.slot root s u r;
     gives = λ x g s u r f. absurd f;
     suited = λ x item v g s u r f w e. tt;
@@ -395,7 +411,7 @@ module _ (limits : Limits) (h : Changes) (own : OwnNames) (t : Index) (first sec
     notes = λ at rs done g s u r. refl;
     has = λ x op g s u r f w. refl;
     redomains = λ x op v g s u r f w held. absurd (no-domain x.kind x.slot op w.1 f w.3);
-    heres = λ g s u r. refl;
+    heres = λ g s u r. ap (λ (m : Rest). m.here) r.0.rest;
     moves = λ k g s u r f. absurd f;
     calls = λ x op g s u r f. absurd f;
     cells = λ x g s u r f. absurd f;

@@ -16,41 +16,42 @@ use Rattle.dpl_language.specs.Assignments.{read_or, evaluated, change, assign_ar
 use Rattle.dpl_language.specs.Declarations.{type_of, declaring, initial_then, declare_with, declare_typed, declare_by, declare}
 use Rattle.dpl_language.specs.Roots.{deal_by, dealt}
 use Rattle.dpl_language.specs.Statements.{holds, exec, exec_body, exec_all, exec_else}
-use Rattle.dpl_words.specs.Words.{IntLeaf, TruthLeaf, RangeLeaf}
-use Rattle.dpl_memory.specs.Memory.{VariableKind, PlainKind, DomainKind, TupleKind, ArrayKind, Memory, Variable, value_in, with_value_in, undealt, anew, declared, in_memory}
+use Rattle.dpl_words.specs.Words.{IntLeaf, TruthLeaf, RangeLeaf, LocaleLeaf}
+use Rattle.dpl_memory.specs.Memory.{VariableKind, PlainKind, DomainKind, TupleKind, CellKind, ArrayKind, Memory, rest_of, Variable, value_in, with_value_in, undealt, anew, declared, in_memory}
 use Rattle.dpl_apart.specs.Workers.{worker_end}
-use Rattle.dpl_turns.specs.Alongside.{KeepsRoots, IsQuiet}
+use Rattle.dpl_turns.specs.Alongside.{KeepsRest, IsQuiet}
 use Rattle.dpl_turns.specs.Bodies.{is_plain, ArePlain, HasPlain, IsScalar, IsSilentInit, IsSilentInitial, IsSilentDeclare, IsSilent, IsSilentBody, AreSilent, IsSilentElse}
-use Rattle.dpl_turns.proofs.Quiet.{quiet-value, quiet-then, quiet-done, quiet-choose, quiet-unless, quiet-order, quiet-repeated, quiet-change, value-roots}
+use Rattle.dpl_turns.proofs.Quiet.{quiet-value, quiet-then, quiet-done, quiet-choose, quiet-unless, quiet-order, quiet-repeated, quiet-change, value-rest}
 
--- ---- roots
-anew-roots : (along : List ℕ) (s : Memory) → (anew along s).roots ≡ s.roots
-anew-roots [] s = refl
-anew-roots (slot ∷ slots) s = anew-roots slots s
+-- ---- what is no variable's
+anew-rest : (along : List ℕ) (s : Memory) → rest_of (anew along s) ≡ rest_of s
+anew-rest [] s = refl
+anew-rest (slot ∷ slots) s = anew-rest slots s
 
-undealt-roots : (k : VariableKind) (slot : ℕ) (s : Memory) → is_plain k ≡ true → (undealt k slot s).roots ≡ s.roots
-undealt-roots (PlainKind k) slot s plain = refl
-undealt-roots DomainKind slot s plain = absurd cc
-undealt-roots TupleKind slot s plain = refl
-undealt-roots (ArrayKind k) slot s plain = absurd cc
+undealt-rest : (k : VariableKind) (slot : ℕ) (s : Memory) → is_plain k ≡ true → rest_of (undealt k slot s) ≡ rest_of s
+undealt-rest (PlainKind k) slot s plain = refl
+undealt-rest DomainKind slot s plain = absurd cc
+undealt-rest TupleKind slot s plain = refl
+undealt-rest (ArrayKind k) slot s plain = absurd cc
+undealt-rest (CellKind c) slot s plain = refl
 
-pub declared-roots : (x : Variable) (v : Value) (s : Memory) → is_plain x.kind ≡ true → (declared x (Plain v) s).roots ≡ s.roots
-declared-roots x v s plain = undealt-roots x.kind x.slot (with_value_in x.kind x.slot v (anew x.along s)) plain ∙ value-roots x.kind x.slot v (anew x.along s) ∙ anew-roots x.along s
+pub declared-rest : (x : Variable) (v : Value) (s : Memory) → is_plain x.kind ≡ true → rest_of (declared x (Plain v) s) ≡ rest_of s
+declared-rest x v s plain = undealt-rest x.kind x.slot (with_value_in x.kind x.slot v (anew x.along s)) plain ∙ value-rest x.kind x.slot v (anew x.along s) ∙ anew-rest x.along s
 
-each-roots : (xs : List (Placed Variable)) (t : Index) (s : Memory) → ArePlain xs → (declare_each in_memory xs t s).roots ≡ s.roots
-each-roots [] t s plain = refl
-each-roots (x ∷ xs) [] s plain = each-roots xs [] (declared x.name (Plain (Int (pos 0))) s) plain.1 ∙ declared-roots x.name (Int (pos 0)) s plain.0
-each-roots (x ∷ xs) (i ∷ t) s plain = each-roots xs t (declared x.name (Plain (Int i)) s) plain.1 ∙ declared-roots x.name (Int i) s plain.0
+each-rest : (xs : List (Placed Variable)) (t : Index) (s : Memory) → ArePlain xs → rest_of (declare_each in_memory xs t s) ≡ rest_of s
+each-rest [] t s plain = refl
+each-rest (x ∷ xs) [] s plain = each-rest xs [] (declared x.name (Plain (Int (pos 0))) s) plain.1 ∙ declared-rest x.name (Int (pos 0)) s plain.0
+each-rest (x ∷ xs) (i ∷ t) s plain = each-rest xs t (declared x.name (Plain (Int i)) s) plain.1 ∙ declared-rest x.name (Int i) s plain.0
 
-pub bound-roots : (xs : VariablesTree Variable) (over : Value) (t : Index) (s : Memory) → HasPlain xs → (bound_to in_memory xs over t s).roots ≡ s.roots
-bound-roots (OneVariable x) over t s plain = declared-roots x.name (loop_value over t) s plain
-bound-roots (ManyVariables from xs upto) over t s plain = each-roots (parts xs) t s plain
+pub bound-rest : (xs : VariablesTree Variable) (over : Value) (t : Index) (s : Memory) → HasPlain xs → rest_of (bound_to in_memory xs over t s) ≡ rest_of s
+bound-rest (OneVariable x) over t s plain = declared-rest x.name (loop_value over t) s plain
+bound-rest (ManyVariables from xs upto) over t s plain = each-rest (parts xs) t s plain
 
 -- ---- loops
 quiet-named : (turn : Index → Run Memory) (t : Index) → IsQuiet (turn t) → IsQuiet (named_turn turn t)
 quiet-named turn t quiet s = by (quiet s).0 (quiet s).1 (quiet s).2 where
-  by : (r : Result Memory Fault) → ((done : Deeds) → turn t s done ≡ worker_end r done) → KeepsRoots s r
-      → (e : Result Memory Fault) × ((done : Deeds) → naming t (turn t s done) ≡ worker_end e done) × KeepsRoots s e
+  by : (r : Result Memory Fault) → ((done : Deeds) → turn t s done ≡ worker_end r done) → KeepsRest s r
+      → (e : Result Memory Fault) × ((done : Deeds) → naming t (turn t s done) ≡ worker_end e done) × KeepsRest s e
   by (Ok u) ends kept = (Ok u, (λ done. ap (naming t) (ends done)), kept)
   by (Err f) ends kept = (Err (in_the_turn (InTurn t) f), (λ done. ap (naming t) (ends done)), tt)
 
@@ -59,7 +60,7 @@ quiet-scoped body quiet = quiet-then body (λ s done. Done s done) quiet (quiet-
 
 pub quiet-bound : (xs : VariablesTree Variable) (over : Value) (t : Index) (body : Run Memory) → HasPlain xs → IsQuiet body → IsQuiet (λ s done. body (bound_to in_memory xs over t s) done)
 quiet-bound xs over t body plain quiet =
-    quiet-then (λ s done. Done (bound_to in_memory xs over t s) done) body (quiet-done (bound_to in_memory xs over t) (λ s. bound-roots xs over t s plain)) quiet
+    quiet-then (λ s done. Done (bound_to in_memory xs over t s) done) body (quiet-done (bound_to in_memory xs over t) (λ s. bound-rest xs over t s plain)) quiet
 
 quiet-turn : (xs : VariablesTree Variable) (over : Value) (body : Run Memory) → HasPlain xs → IsQuiet body → (t : Index) → IsQuiet (turn_of in_memory xs over body t)
 quiet-turn xs over body plain quiet t =
@@ -90,11 +91,11 @@ module _ (limits : Limits) where
         quiet-evaluated item
         (λ v s done. unless (too_large (ranges_in v) && in_memory.has_arrays x.name s) (fault ArrayTooLarge x.at) (λ s done. Done (in_memory.redomain x.name (ranges_in v) s) done) s done) unread
         (λ v s. quiet-unless (too_large (ranges_in v) && in_memory.has_arrays x.name s) (fault ArrayTooLarge x.at) (λ s done. Done (in_memory.redomain x.name (ranges_in v) s) done)
-        (quiet-done (in_memory.redomain x.name (ranges_in v)) (λ s. value-roots x.name.kind x.name.slot _ s)) s) s
+        (quiet-done (in_memory.redomain x.name (ranges_in v)) (λ s. value-rest x.name.kind x.name.slot _ s)) s) s
     quiet-name None false s =
         quiet-evaluated item (λ v. with_value (tested_divisor (assign_divides sign.op) sign.at v) (λ w s done. Done (in_memory.update x.name sign.op w s) done)) unread
         (λ v. quiet-value (λ s. tested_divisor (assign_divides sign.op) sign.at v) (λ w s done. Done (in_memory.update x.name sign.op w s) done)
-        (λ w. quiet-done (in_memory.update x.name sign.op w) (λ s. value-roots x.name.kind x.name.slot _ s))) s
+        (λ w. quiet-done (in_memory.update x.name sign.op w) (λ s. value-rest x.name.kind x.name.slot _ s))) s
 
   quiet-assign : (target : TargetTree Variable) (sign : AssignTree) (item : ItemTree Variable) → item_read item ≡ None → IsQuiet (assign limits in_memory target sign item)
   quiet-assign (Whole x) sign item unread s = quiet-name x sign item unread (array_domain (in_memory.get x.name s)) (is_domain (in_memory.get x.name s)) s
@@ -104,11 +105,11 @@ module _ (limits : Limits) where
 
   -- ---- declarations
   quiet-with : (x : Placed Variable) (v : Value) (initial : Option (InitialTree Variable)) → is_plain x.name.kind ≡ true → IsSilentInitial initial → IsQuiet (declare_with limits in_memory x (Plain v) (λ v. Plain v) initial)
-  quiet-with x v None plain silent = quiet-done (declared x.name (Plain v)) (λ s. declared-roots x.name v s plain)
+  quiet-with x v None plain silent = quiet-done (declared x.name (Plain v)) (λ s. declared-rest x.name v s plain)
   quiet-with x v (Some i) plain silent = by i.init silent where
     by : (init : InitTree Variable) → IsSilentInit init → IsQuiet (initial_then limits in_memory init (λ v. declaring limits in_memory x (Plain v)))
     by (ItemInit item mapped) unread =
-        quiet-evaluated item (λ v. declaring limits in_memory x (Plain v)) unread (λ v. quiet-done (declared x.name (Plain v)) (λ s. declared-roots x.name v s plain))
+        quiet-evaluated item (λ v. declaring limits in_memory x (Plain v)) unread (λ v. quiet-done (declared x.name (Plain v)) (λ s. declared-rest x.name v s plain))
     by (CreateInit c) silent = absurd silent
 
   quiet-typed : (x : Placed Variable) (type : Option (TypeTree Variable)) (initial : Option (InitialTree Variable)) → is_plain x.name.kind ≡ true → IsScalar type → IsSilentInitial initial
@@ -125,15 +126,19 @@ module _ (limits : Limits) where
   undistributed None i x (PlainKind IntLeaf) slot s after plain scalar = refl
   undistributed None i x (PlainKind TruthLeaf) slot s after plain scalar = refl
   undistributed None i x (PlainKind RangeLeaf) slot s after plain scalar = refl
+  undistributed None i x (PlainKind LocaleLeaf) slot s after plain scalar = refl
   undistributed None i x DomainKind slot s after plain scalar = absurd cc
   undistributed None i x TupleKind slot s after plain scalar = refl
   undistributed None i x (ArrayKind k) slot s after plain scalar = absurd cc
+  undistributed None i x (CellKind c) slot s after plain scalar = refl
   undistributed (Some (ScalarType at kind)) i x (PlainKind IntLeaf) slot s after plain scalar = refl
   undistributed (Some (ScalarType at kind)) i x (PlainKind TruthLeaf) slot s after plain scalar = refl
   undistributed (Some (ScalarType at kind)) i x (PlainKind RangeLeaf) slot s after plain scalar = refl
+  undistributed (Some (ScalarType at kind)) i x (PlainKind LocaleLeaf) slot s after plain scalar = refl
   undistributed (Some (ScalarType at kind)) i x DomainKind slot s after plain scalar = absurd cc
   undistributed (Some (ScalarType at kind)) i x TupleKind slot s after plain scalar = refl
   undistributed (Some (ScalarType at kind)) i x (ArrayKind k) slot s after plain scalar = absurd cc
+  undistributed (Some (ScalarType at kind)) i x (CellKind c) slot s after plain scalar = refl
   undistributed (Some (SyncType at kind_at kind)) i x k slot s after plain scalar = absurd scalar
   undistributed (Some (DomainType d)) i x k slot s after plain scalar = absurd scalar
   undistributed (Some (ArrayType a)) i x k slot s after plain scalar = absurd scalar
@@ -142,7 +147,7 @@ module _ (limits : Limits) where
   quiet-declare d silent s =
       quiet-then (declare limits in_memory d) (λ after done. Done (dealt limits in_memory d s after) done)
       (subst (λ config. IsQuiet (declare_by limits in_memory config d)) (sym silent.0) (quiet-typed d.name (type_of d.typed) d.initial silent.1 silent.2 silent.3))
-      (quiet-done (dealt limits in_memory d s) (λ after. ap (λ (m : Memory). m.roots) (undistributed (type_of d.typed) d.initial d.name.name d.name.name.kind d.name.name.slot s after silent.1 silent.2))) s
+      (quiet-done (dealt limits in_memory d s) (λ after. ap rest_of (undistributed (type_of d.typed) d.initial d.name.name d.name.name.kind d.name.name.slot s after silent.1 silent.2))) s
 
   -- ---- statements
   mutual

@@ -7,7 +7,7 @@ use Rattle.dpl_language.specs.Values.{Index, Fault}
 use Rattle.dpl_language.specs.Ranges.{same_index}
 use Rattle.dpl_language.specs.Outcome.{Deeds, Run}
 use Rattle.dpl_words.specs.Words.{no_range}
-use Rattle.dpl_memory.specs.Memory.{Held, Memory, no_tuple, is_among}
+use Rattle.dpl_memory.specs.Memory.{Held, Memory, no_tuple, is_among, rest_of}
 use Rattle.dpl_apart.specs.Operands.{all_combined, AreExact}
 use Rattle.dpl_apart.specs.Memories.{Changes, Row, with_elements, operators_of, is_kept}
 use Rattle.dpl_apart.specs.Workers.{worker_end}
@@ -51,7 +51,7 @@ pub record IsAlongside (h : Changes) (t : Index) (first second : Memory) (rows :
   pub ranges : ValuesAlong no_range h.ranges second.words.ranges s.words.ranges u.words.ranges
   pub tuples : ValuesAlong no_tuple h.tuples second.tuples s.tuples u.tuples
   pub domains : (s.domains ≡ u.domains) × (u.domains ≡ second.domains)
-  pub roots : s.roots ≡ u.roots
+  pub rest : rest_of s ≡ rest_of u
   pub intents : (s.words.intents ≡ u.words.intents) × (u.words.intents ≡ second.words.intents)
   pub sets : (s.words.sets ≡ u.words.sets) × (u.words.sets ≡ second.words.sets)
 
@@ -70,11 +70,11 @@ begun numbers ranges tuples s = record s {
   tuples = put_in tuples s.tuples;
 }
 
--- a memory that a run leaves has the roots which there were
-abbrev pub KeepsRoots : Memory → Result Memory Fault → Type 0
-KeepsRoots s (Ok u) = u.roots ≡ s.roots
-KeepsRoots s (Err f) = Unit {0}
+-- a memory that a run leaves has what was no variable's before
+abbrev pub KeepsRest : Memory → Result Memory Fault → Type 0
+KeepsRest s (Ok u) = rest_of u ≡ rest_of s
+KeepsRest s (Err f) = Unit {0}
 
--- A run that neither looks at what was done before it nor adds to that, doesn't wait, and leaves all roots.
+-- A run that neither looks at what was done before it nor adds to that, doesn't wait, and changes nothing but variables.
 abbrev pub IsQuiet : Run Memory → Type 0
-IsQuiet run = (s : Memory) → (r : Result Memory Fault) × ((done : Deeds) → run s done ≡ worker_end r done) × KeepsRoots s r
+IsQuiet run = (s : Memory) → (r : Result Memory Fault) × ((done : Deeds) → run s done ≡ worker_end r done) × KeepsRest s r

@@ -9,8 +9,8 @@ use Rattle.dpl_language.specs.Loops.{bound_to}
 use Rattle.dpl_language.specs.Declarations.{type_of}
 use Rattle.dpl_language.specs.Statements.{exec_all}
 use Rattle.dpl_lowered.specs.Shapes.{nowhere}
-use Rattle.dpl_words.specs.Words.{LeafKind, IntLeaf, TruthLeaf, RangeLeaf, combines, intent_at}
-use Rattle.dpl_memory.specs.Memory.{VariableKind, PlainKind, DomainKind, TupleKind, ArrayKind, Variable, variable, Memory, no_tuple, is_among, in_memory}
+use Rattle.dpl_words.specs.Words.{LeafKind, IntLeaf, TruthLeaf, RangeLeaf, LocaleLeaf, combines, intent_at}
+use Rattle.dpl_memory.specs.Memory.{VariableKind, PlainKind, DomainKind, TupleKind, CellKind, ArrayKind, Variable, variable, Memory, no_tuple, is_among, in_memory}
 use Rattle.dpl_agreement.specs.Scopes.{Scoping, Form, PlainForm, ArrayForm, CellForm, fits_all}
 use Rattle.dpl_apart.specs.Rows.{AreOnce}
 use Rattle.dpl_apart.specs.Memories.{Changes}
@@ -60,7 +60,7 @@ AreOfRank (OneTuple slot) rank = Unit {0}
 
 -- their declarations in a turn, along with which other slots begin anew
 abbrev pub leaf_along : VariableKind → ℕ → List ℕ → Placed Variable
-leaf_along k slot along = record { at = nowhere; name = record { kind = k; slot = slot; along = along } }
+leaf_along k slot along = record { at = nowhere; name = record { kind = k; slot = slot; along = along; cells = [] } }
 
 abbrev pub loop_variables : OwnNames → List ℕ → VariablesTree Variable
 loop_variables NoNames along = ManyVariables nowhere (record { first = leaf_along DomainKind 0 along; others = [] }) nowhere
@@ -146,27 +146,33 @@ module _ (h : Changes) (own : OwnNames) where
   is_reduced (PlainKind IntLeaf) slot = is_among slot (slots_of h.reduced)
   is_reduced (PlainKind TruthLeaf) slot = is_among slot (slots_of h.reduced)
   is_reduced (PlainKind RangeLeaf) slot = false
+  is_reduced (PlainKind LocaleLeaf) slot = is_among slot (slots_of h.reduced)
   is_reduced DomainKind slot = false
   is_reduced TupleKind slot = false
   is_reduced (ArrayKind k) slot = false
+  is_reduced (CellKind c) slot = false
 
   -- a variable that begins anew in each turn, and so may be assigned and declared there
   abbrev pub begins_anew : VariableKind → ℕ → Bool
   begins_anew (PlainKind IntLeaf) slot = is_among slot h.numbers && is_other slot
   begins_anew (PlainKind TruthLeaf) slot = is_among slot h.numbers && is_other slot
   begins_anew (PlainKind RangeLeaf) slot = is_among slot h.ranges && is_other slot
+  begins_anew (PlainKind LocaleLeaf) slot = is_among slot h.numbers && is_other slot
   begins_anew DomainKind slot = false
   begins_anew TupleKind slot = is_among slot h.tuples && is_other slot
   begins_anew (ArrayKind k) slot = false
+  begins_anew (CellKind k) slot = false
 
   -- such a variable, or a reduce variable by its operator; of an array the elements are asked for besides
   abbrev pub may_assign : VariableKind → ℕ → Assign → Bool
   may_assign (PlainKind IntLeaf) slot op = begins_anew (PlainKind IntLeaf) slot || (is_other slot && adds_by IntLeaf op (intent_at slot h.reduced))
   may_assign (PlainKind TruthLeaf) slot op = begins_anew (PlainKind TruthLeaf) slot || (is_other slot && adds_by TruthLeaf op (intent_at slot h.reduced))
   may_assign (PlainKind RangeLeaf) slot op = begins_anew (PlainKind RangeLeaf) slot
+  may_assign (PlainKind LocaleLeaf) slot op = begins_anew (PlainKind LocaleLeaf) slot
   may_assign DomainKind slot op = false
   may_assign TupleKind slot op = false
   may_assign (ArrayKind k) slot op = true
+  may_assign (CellKind c) slot op = false
 
   abbrev pub may_declare : Variable → Form Variable → Bool
   may_declare x PlainForm = begins_anew x.kind x.slot && is_none x.along
@@ -179,12 +185,14 @@ module _ (h : Changes) (own : OwnNames) where
   ReadsAt DomainKind slot i t = Unit {0}
   ReadsAt TupleKind slot i t = Unit {0}
   ReadsAt (ArrayKind k) slot i t = is_among slot h.written ≡ true → i ≡ t
+  ReadsAt (CellKind c) slot i t = Unit {0}
 
   abbrev pub ReadsElement : VariableKind → ℕ → Items Variable → Type 0
   ReadsElement (PlainKind k) slot items = Unit {0}
   ReadsElement DomainKind slot items = Unit {0}
   ReadsElement TupleKind slot items = Unit {0}
   ReadsElement (ArrayKind k) slot items = is_among slot h.written ≡ true → IsOwn own items
+  ReadsElement (CellKind c) slot items = Unit {0}
 
   -- and elements of written arrays alone are assigned, at that index
   abbrev pub AssignsAt : VariableKind → ℕ → Index → Index → Type 0
@@ -192,12 +200,14 @@ module _ (h : Changes) (own : OwnNames) where
   AssignsAt DomainKind slot i t = Unit {0}
   AssignsAt TupleKind slot i t = Unit {0}
   AssignsAt (ArrayKind k) slot i t = (is_among slot h.written ≡ true) × (i ≡ t)
+  AssignsAt (CellKind c) slot i t = Unit {0}
 
   abbrev pub AssignsElement : VariableKind → ℕ → Items Variable → Type 0
   AssignsElement (PlainKind k) slot items = Unit {0}
   AssignsElement DomainKind slot items = Unit {0}
   AssignsElement TupleKind slot items = Unit {0}
   AssignsElement (ArrayKind k) slot items = (is_among slot h.written ≡ true) × IsOwn own items
+  AssignsElement (CellKind c) slot items = Unit {0}
 
   -- What a turn may do with names, by its index. It makes no forall, has no tasks and no cells, and declares neither domains nor arrays.
   abbrev pub turn_scoping : Index → Scoping Variable (Unit {0})
@@ -233,6 +243,7 @@ is_plain (PlainKind k) = true
 is_plain DomainKind = false
 is_plain TupleKind = true
 is_plain (ArrayKind k) = false
+is_plain (CellKind k) = false
 
 abbrev pub ArePlain : List (Placed Variable) → Type 0
 ArePlain [] = Unit {0}

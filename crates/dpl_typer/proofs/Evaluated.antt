@@ -12,7 +12,7 @@ use Rattle.dpl_language.specs.Environment.{Limits}
 use Rattle.dpl_language.specs.Expressions.{bracketed, value_of, item_of, items_of}
 use Rattle.dpl_language.specs.Phrases.{Base, base_of}
 use Rattle.dpl_lowered.specs.LoweredExpressions.{Once}
-use Rattle.dpl_memory.specs.Memory.{VariableKind, PlainKind, DomainKind, TupleKind, ArrayKind, Variable, Memory, no_domain, no_tuple, array_at, in_memory}
+use Rattle.dpl_memory.specs.Memory.{VariableKind, PlainKind, DomainKind, TupleKind, CellKind, ArrayKind, Variable, Memory, no_domain, no_tuple, array_at, in_memory}
 use Rattle.dpl_nodes.specs.declared.tree.DomainExpr.{DomainExpr, Local as DomainLocal, OfArray, Literal', Slice' as DomainSlice', Expanded', Created'}
 use Rattle.dpl_nodes.specs.Typed.{items_one, int_view, ranges_items, domain_view}
 use Rattle.dpl_nodes.proofs.Evaluated.{Gives, int_gives, truth_gives, item_gives}
@@ -34,6 +34,7 @@ GivesOnce (PlainKind k) r = Gives k r
 GivesOnce DomainKind r = GivesDomain r
 GivesOnce TupleKind r = GivesTuple r
 GivesOnce (ArrayKind k) r = Unit {0}
+GivesOnce (CellKind k) r = ⊥
 
 -- a domain, unless it is too large
 limited : (b : Bool) (at : Place) (rs : List TextRange) → GivesDomain (if b then Err (fault PastLimit at) else Ok (Domain rs))

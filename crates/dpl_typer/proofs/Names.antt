@@ -11,7 +11,7 @@ use Rattle.dpl_scopes.proofs.Slots.{slot_in-lookup}
 use Rattle.dpl_lowered.specs.Known.{may_be_array}
 use Rattle.dpl_lowered.specs.Shapes.{placed}
 use Rattle.dpl_lowered.specs.LoweredExpressions.{Times, Once, EachTurn, each_turn}
-use Rattle.dpl_memory.specs.Memory.{VariableKind, PlainKind, DomainKind, TupleKind, ArrayKind, variable, known_kind, known_variable}
+use Rattle.dpl_memory.specs.Memory.{VariableKind, PlainKind, DomainKind, TupleKind, CellKind, ArrayKind, variable, known_kind, known_variable}
 use Rattle.dpl_typer.specs.Leaves.{kind_by, kind_in, leaf_by, leaf_in}
 use Rattle.dpl_typer.specs.Elaborated.{leaf_view, name_leaf}
 
@@ -27,10 +27,12 @@ leaf_view-placed Once at (PlainKind k) slot = refl
 leaf_view-placed Once at DomainKind slot = refl
 leaf_view-placed Once at TupleKind slot = refl
 leaf_view-placed Once at (ArrayKind k) slot = refl
+leaf_view-placed Once at (CellKind c) slot = refl
 leaf_view-placed EachTurn at (PlainKind k) slot = refl
 leaf_view-placed EachTurn at DomainKind slot = refl
 leaf_view-placed EachTurn at TupleKind slot = refl
 leaf_view-placed EachTurn at (ArrayKind k) slot = refl
+leaf_view-placed EachTurn at (CellKind c) slot = refl
 
 -- a name in sight is its declaration's variable
 pub leaf_view-named : (scopes : Scopes) (m : Times) (x : Placed Text) (k : VariableKind) (slot : ℕ) → kind_in scopes x.name ≡ Some k → slot_in scopes x.name ≡ Some slot

@@ -13,7 +13,7 @@ use Rattle.dpl_rules.specs.Sights.{Declared, type_declared}
 use Rattle.dpl_rules.specs.Operators.{prefix_kind as taken_before, prefix_verdict, prefixed, reduced_over, reduced, reduction_verdict, infix_verdict, Takes, Ints, Alike, Bools, taken, taking, between, alike, over_arrays, agree}
 use Rattle.dpl_rules.specs.Expressions.{plain_name, name_verdict}
 use Rattle.dpl_words.specs.Words.{IntLeaf, TruthLeaf, RangeLeaf}
-use Rattle.dpl_memory.specs.Memory.{VariableKind, PlainKind, DomainKind, TupleKind, ArrayKind}
+use Rattle.dpl_memory.specs.Memory.{VariableKind, PlainKind, DomainKind, TupleKind, CellKind, ArrayKind}
 use Rattle.dpl_typer.specs.declared.make.Typed.{Typed}
 use Rattle.dpl_typer.specs.Makers.{kind_if, kind_of, operand_kind, is_promoted, kind_over, before_kind, prefix_kind, ints_kind, truths_kind, between_kind, infix_kind, fold_kind, folded_kind, reduced_kind}
 use Rattle.dpl_typer.specs.Leaves.{is_rank, is_tuple_rank, value_kind, IsOfKind, IsOfType}
@@ -155,6 +155,7 @@ over-gives op at (ArrayKind k) l (Some over) e p =
     let same : k ≡ l = cc in
     subst (λ l. Gives (folded_kind (fold_kind op) k) (type_by (has_if (same_kind (op_kind op) l) (Scalar (op_kind op)) at))) same
     (subst (λ j. Gives (folded_kind (fold_kind op) k) (type_by (has_if (same_kind j k) (Scalar j) at))) (sym (op_kind-fold op)) (folded-gives (fold_kind op) k at))
+over-gives op at (CellKind c) l (Some over) e p = absurd (let f : false ≡ true = p in cc)
 
 reduced-gives : (op : Op) (at : Place) (k : VariableKind) (o : Option Operand) → IsOperand k o → Gives (reduced_kind op k) (type_by (reduced at (op_kind op) o))
 reduced-gives op at k None h = gives-none (reduced_kind op k)

@@ -14,7 +14,7 @@ use Rattle.dpl_agreement.proofs.RenamedTwice.{renamed_item-twice}
 use Rattle.dpl_rules.specs.Sights.{Scopes}
 use Rattle.dpl_lowered.specs.LoweredExpressions.{Once, lowered_item}
 use Rattle.dpl_lowered.proofs.Values.{item_of-lowered}
-use Rattle.dpl_memory.specs.Memory.{VariableKind, PlainKind, DomainKind, TupleKind, ArrayKind, Memory, known_variable, in_memory}
+use Rattle.dpl_memory.specs.Memory.{VariableKind, PlainKind, DomainKind, TupleKind, CellKind, ArrayKind, Memory, known_variable, in_memory}
 use Rattle.dpl_memory.specs.Resolved.{Shape, Bound, Seen, variable_of, IsOf, HasShape, IsShaped, GivesOnce as ItemGives, SuitsKind, Suits}
 use Rattle.dpl_memory.proofs.Known.{memory-known}
 use Rattle.dpl_typer.specs.declared.make.Typed.{Typed}
@@ -29,6 +29,7 @@ given (PlainKind k) r v g w e = subst (GivesOnce (PlainKind k)) e g
 given DomainKind r v g w e = subst (GivesOnce DomainKind) e g
 given TupleKind r v g w e = subst (GivesOnce TupleKind) e g
 given (ArrayKind k) r v g w e = absurd (let f : true ≡ false = w in cc)
+given (CellKind k) r v g w e = absurd g
 
 -- and so the right side suits a name of the kind
 kind-suits : (k : VariableKind) (shape : Shape) (item : ItemTree Bound) (g : Seen) → is_promoted k ≡ false → ItemGives k shape item g → SuitsKind k shape item g
@@ -36,6 +37,7 @@ kind-suits (PlainKind k) shape item g w h = h
 kind-suits DomainKind shape item g w h = h
 kind-suits TupleKind shape item g w h = h
 kind-suits (ArrayKind k) shape item g w h = absurd (let f : true ≡ false = w in cc)
+kind-suits (CellKind c) shape item g w h = h
 
 module _ (scopes : Scopes) (t : Typed) (item : ItemTree Text) (is : typed_item Once t ≡ lowered_item known_variable Once (renamed_item (leaf_in scopes) item)) where
   -- what the resolved item is in a memory is what the typed one is

@@ -15,7 +15,7 @@ use Rattle.dpl_rules.specs.Expressions.{range_item_verdict, chain_type, posts_ty
 use Rattle.dpl_lowered.specs.Known.{may_be_array}
 use Rattle.dpl_lowered.specs.Shapes.{nowhere, kept, placed, grouped, stacked_on, as_items}
 use Rattle.dpl_lowered.specs.LoweredExpressions.{Times, Once, EachTurn, each_turn, rebased, told_base, lowered_expr, lowered_item, lowered_stride, lowered_links, lowered_posts, lowered_post, lowered_items, lowered_exprs}
-use Rattle.dpl_memory.specs.Memory.{VariableKind, PlainKind, DomainKind, TupleKind, ArrayKind, Variable, variable, known_variable}
+use Rattle.dpl_memory.specs.Memory.{VariableKind, PlainKind, DomainKind, TupleKind, CellKind, ArrayKind, Variable, variable, known_variable}
 use Rattle.dpl_tree.specs.declared.expression.Chain.{Chain as ChainNode, out-Chain}
 use Rattle.dpl_tree.specs.declared.expression.Range.{Range as RangeNode}
 use Rattle.dpl_tree.specs.declared.expression.Postfixed.{Postfixed as PostfixedNode}
@@ -46,6 +46,7 @@ leaf_view m at (PlainKind k) slot = leaf_named (variable (PlainKind k) slot)
 leaf_view m at DomainKind slot = leaf_named (variable DomainKind slot)
 leaf_view m at TupleKind slot = leaf_named (variable TupleKind slot)
 leaf_view m at (ArrayKind k) slot = array_named k slot (kept (each_turn m) at)
+leaf_view m at (CellKind c) slot = leaf_named (variable (CellKind c) slot)
 
 -- a chain, by its first operand and the others
 abbrev pub chain_tree : ChainNode → ExprTree Text

@@ -4,8 +4,8 @@ use Rattle.std.specs.Prelude.{ℕ, nat_lt, Bool, true, false, ◌&&◌, ◌||◌
 use Rattle.dpl_language.specs.Tree.{Kind, IntKind, BoolKind, ExprTree, Prefix, Minus, Not, Infix, Add, Subtract, Multiply, Divide, Remainder, Less, LessEqual, Greater, GreaterEqual, Equal, NotEqual, And, Or, Word, Size, First, Last, Low, High, LowBound, DomainOf, Id, ItemTree, One, Items}
 use Rattle.dpl_language.specs.Tree.{Op, Sum, Product, AllOf, AnyOf, BitAnd, BitOr, BitXor, Least, Greatest}
 use Rattle.dpl_lowered.specs.LoweredExpressions.{Times}
-use Rattle.dpl_words.specs.Words.{LeafKind, IntLeaf, TruthLeaf, RangeLeaf}
-use Rattle.dpl_memory.specs.Memory.{VariableKind, PlainKind, DomainKind, TupleKind, ArrayKind, Variable}
+use Rattle.dpl_words.specs.Words.{LeafKind, IntLeaf, TruthLeaf, RangeLeaf, LocaleLeaf}
+use Rattle.dpl_memory.specs.Memory.{VariableKind, PlainKind, DomainKind, TupleKind, CellKind, ArrayKind, Variable}
 use Rattle.dpl_typer.specs.declared.make.Typed.{Typed}
 use Rattle.dpl_typer.specs.declared.make.Typed.TheVariants.{Int, Truth, Range, Domain, Tuple, Ints, Truths}
 use Rattle.dpl_typer.specs.declared.pieces.Parts.{Parts}
@@ -85,15 +85,18 @@ abbrev pub operand_kind : VariableKind → Option Kind
 operand_kind (PlainKind IntLeaf) = Some IntKind
 operand_kind (PlainKind TruthLeaf) = Some BoolKind
 operand_kind (PlainKind RangeLeaf) = None
+operand_kind (PlainKind LocaleLeaf) = None
 operand_kind DomainKind = None
 operand_kind TupleKind = None
 operand_kind (ArrayKind k) = Some k
+operand_kind (CellKind c) = None
 
 abbrev pub is_promoted : VariableKind → Bool
 is_promoted (PlainKind k) = false
 is_promoted DomainKind = false
 is_promoted TupleKind = false
 is_promoted (ArrayKind k) = true
+is_promoted (CellKind c) = false
 
 -- what is made of operands is promoted if one of them is
 abbrev pub kind_over : Bool → Kind → VariableKind
@@ -180,6 +183,7 @@ reduced_kind op (PlainKind k) = None
 reduced_kind op DomainKind = None
 reduced_kind op TupleKind = None
 reduced_kind op (ArrayKind k) = folded_kind (fold_kind op) k
+reduced_kind op (CellKind c) = None
 
 -- PARTS, between brackets
 abbrev pub parts_items : Parts → Items Variable
@@ -206,23 +210,28 @@ abbrev pub is_int : VariableKind → Bool
 is_int (PlainKind IntLeaf) = true
 is_int (PlainKind TruthLeaf) = false
 is_int (PlainKind RangeLeaf) = false
+is_int (PlainKind LocaleLeaf) = false
 is_int DomainKind = false
 is_int TupleKind = false
 is_int (ArrayKind k) = false
+is_int (CellKind c) = false
 
 abbrev pub is_range : VariableKind → Bool
 is_range (PlainKind IntLeaf) = false
 is_range (PlainKind TruthLeaf) = false
 is_range (PlainKind RangeLeaf) = true
+is_range (PlainKind LocaleLeaf) = false
 is_range DomainKind = false
 is_range TupleKind = false
 is_range (ArrayKind k) = false
+is_range (CellKind c) = false
 
 abbrev pub is_tuple : VariableKind → Bool
 is_tuple (PlainKind k) = false
 is_tuple DomainKind = false
 is_tuple TupleKind = true
 is_tuple (ArrayKind k) = false
+is_tuple (CellKind k) = false
 
 abbrev pub are_ints : List VariableKind → Bool
 are_ints [] = true
@@ -276,9 +285,11 @@ abbrev pub square_kind : Bool → VariableKind → List VariableKind → Option 
 square_kind whole (PlainKind IntLeaf) ks = None
 square_kind whole (PlainKind TruthLeaf) ks = None
 square_kind whole (PlainKind RangeLeaf) ks = kind_if (is_one_range ks) (PlainKind RangeLeaf)
+square_kind whole (PlainKind LocaleLeaf) ks = None
 square_kind whole DomainKind ks = kind_if (are_ranges ks) DomainKind
 square_kind whole TupleKind ks = None
 square_kind whole (ArrayKind k) ks = element_kind whole k ks
+square_kind whole (CellKind c) ks = None
 
 -- round brackets: an array has elements
 abbrev pub round_kind : Bool → VariableKind → List VariableKind → Option VariableKind
@@ -286,6 +297,7 @@ round_kind whole (PlainKind k) ks = None
 round_kind whole DomainKind ks = None
 round_kind whole TupleKind ks = None
 round_kind whole (ArrayKind k) ks = element_kind whole k ks
+round_kind whole (CellKind c) ks = None
 
 -- what a method without arguments gives of a range, of a domain, and of a whole array
 abbrev pub range_word_kind : Word → Option VariableKind
@@ -322,18 +334,22 @@ abbrev pub word_kind : Word → Bool → VariableKind → Option VariableKind
 word_kind w whole (PlainKind IntLeaf) = None
 word_kind w whole (PlainKind TruthLeaf) = None
 word_kind w whole (PlainKind RangeLeaf) = range_word_kind w
+word_kind w whole (PlainKind LocaleLeaf) = None
 word_kind w whole DomainKind = domain_word_kind w
 word_kind w whole TupleKind = None
 word_kind w whole (ArrayKind k) = array_word_kind whole w
+word_kind w whole (CellKind c) = None
 
 -- a range contains an int, and a domain an index
 abbrev pub contains_kind : VariableKind → List VariableKind → Option VariableKind
 contains_kind (PlainKind IntLeaf) ks = None
 contains_kind (PlainKind TruthLeaf) ks = None
 contains_kind (PlainKind RangeLeaf) ks = kind_if (is_one_int ks) (PlainKind TruthLeaf)
+contains_kind (PlainKind LocaleLeaf) ks = None
 contains_kind DomainKind ks = kind_if (is_index ks) (PlainKind TruthLeaf)
 contains_kind TupleKind ks = None
 contains_kind (ArrayKind k) ks = None
+contains_kind (CellKind c) ks = None
 
 -- a domain has 1 to 3 dimensions
 abbrev pub is_domain : VariableKind → Bool
@@ -341,6 +357,7 @@ is_domain (PlainKind k) = false
 is_domain DomainKind = true
 is_domain TupleKind = false
 is_domain (ArrayKind k) = false
+is_domain (CellKind c) = false
 
 abbrev pub dim_kind : ℕ → VariableKind → Option VariableKind
 dim_kind n k = kind_if (is_domain k && nat_lt n 3) (PlainKind RangeLeaf)

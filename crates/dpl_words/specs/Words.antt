@@ -4,16 +4,17 @@ use Rattle.std.specs.Prelude.{◌≡◌, ℕ, ◌==◌, ℤ, pos, Bool, true, fa
 use Rattle.std.specs.Ordering.{int_eq}
 use Rattle.dpl_sets.specs.TextRanges.{TextRange}
 use Rattle.dpl_language.specs.Tree.{Op, Sum, Product, AllOf, AnyOf, BitAnd, BitOr, BitXor, Least, Greatest, Assign, Set, SetAdd, SetSubtract, SetMultiply, SetDivide, SetRemainder, SetReduce}
-use Rattle.dpl_language.specs.Values.{Value, Int, Truth, Range, number, kept_number, ranges_in}
+use Rattle.dpl_language.specs.Values.{Value, Int, Truth, Range, Locale, number, kept_number, ranges_in}
 use Rattle.dpl_language.specs.Ranges.{unstrided}
 
--- the kinds of plain variables; ints and truth values share their slots
+-- the kinds of plain variables; ints, truth values and locales share their slots
 pub data LeafKind : Type 0 where
   IntLeaf : LeafKind
   TruthLeaf : LeafKind
   RangeLeaf : LeafKind
+  LocaleLeaf : LeafKind
 
--- The words of ints and truth values, the ranges, the reduce variables of the forall around with their operators, and what
+-- The words of ints, truth values and locales, the ranges, the reduce variables of the forall around with their operators, and what
 -- the command line sets.
 pub record Words : Type 0 where
   pub numbers : List ℤ
@@ -37,12 +38,14 @@ abbrev pub value_at : LeafKind → ℕ → Words → Value
 value_at IntLeaf slot s = Int (get_or s.numbers slot (pos 0))
 value_at TruthLeaf slot s = is_true (get_or s.numbers slot (pos 0))
 value_at RangeLeaf slot s = Range (get_or s.ranges slot no_range)
+value_at LocaleLeaf slot s = Locale (get_or s.numbers slot (pos 0))
 
 -- a value put into a slot, past the last of which nothing changes
 abbrev pub with_value_at : LeafKind → ℕ → Value → Words → Words
 with_value_at IntLeaf slot v s = record s { numbers = set s.numbers slot (number v) }
 with_value_at TruthLeaf slot v s = record s { numbers = set s.numbers slot (kept_number v) }
 with_value_at RangeLeaf slot v s = record s { ranges = set s.ranges slot (first_range (ranges_in v)) }
+with_value_at LocaleLeaf slot v s = record s { numbers = set s.numbers slot (number v) }
 
 -- the operator of the first intent that names a slot
 abbrev pub intent_at : ℕ → List (ℕ × Op) → Option Op
@@ -59,12 +62,14 @@ abbrev pub given_as : LeafKind → ℤ → Value
 given_as IntLeaf w = Int w
 given_as TruthLeaf w = is_true w
 given_as RangeLeaf w = Range no_range
+given_as LocaleLeaf w = Locale w
 
 -- KINDS
 abbrev pub IsOfKind : LeafKind → Value → Type 0
 IsOfKind IntLeaf v = (n : ℤ) × (v ≡ Int n)
 IsOfKind TruthLeaf v = (b : Bool) × (v ≡ Truth b)
 IsOfKind RangeLeaf v = (r : TextRange) × (v ≡ Range r)
+IsOfKind LocaleLeaf v = (k : ℤ) × (v ≡ Locale k)
 
 -- `+= -= *= /= %=`
 abbrev pub is_arithmetic : Assign → Bool
@@ -93,12 +98,14 @@ abbrev pub takes : LeafKind → Assign → Bool
 takes IntLeaf op = true
 takes TruthLeaf op = not (is_arithmetic op)
 takes RangeLeaf op = not (is_arithmetic op)
+takes LocaleLeaf op = not (is_arithmetic op)
 
 -- the operators of reductions that put values of a kind together
 abbrev pub combines : LeafKind → Op → Bool
 combines IntLeaf op = not (is_logical op)
 combines TruthLeaf op = is_logical op
 combines RangeLeaf op = false
+combines LocaleLeaf op = false
 
 -- without an operator, outside foralls, `reduce=` is `=`
 abbrev pub Combines : LeafKind → Option Op → Type 0

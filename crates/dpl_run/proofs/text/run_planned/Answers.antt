@@ -1,5 +1,5 @@
 -- The steps run from the memory with what the sets give.
-use Rattle.std.proofs.Common.{[], map, ap, ◌∙◌, subst}
+use Rattle.std.proofs.Common.{None, [], map, ap, ◌∙◌, subst}
 use Rattle.dpl_language.specs.Outcome.{no_deeds}
 use Rattle.dpl_language.specs.Statements.{exec_all}
 use Rattle.dpl_tree.specs.Statements.{stmts_of}
@@ -21,7 +21,7 @@ returns-clause-ends g c =
     let frame = c.in_ok-frame.frame in
     let given = c.deref.ensures.value ∙ c.in_ok-words.ensures in
     let limits = ap (λ (f : Framed). f.limits) c.in_ok-frame.ensures in
-    let memory = ap (λ (f : Framed). f.memory) c.in_ok-frame.ensures ∙ ap (λ ws. first_memory (record { slots = p.slots; texts = []; words = ws })) given in
+    let memory = ap (λ (f : Framed). f.memory) c.in_ok-frame.ensures ∙ ap (λ ws. first_memory (record { slots = p.slots; cells = 0; texts = []; words = ws; histories = None })) given in
     if_ok c.run.result
     (λ ended ran known left.
     subst (λ l. RanTo p.scopes ts (exec_all l in_memory (steps_in Outside p.steps.now) (first_memory (start_of p.slots p.scopes sets)) no_deeds) ended.outcome ended.text.items) limits

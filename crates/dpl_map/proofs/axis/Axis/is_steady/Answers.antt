@@ -1,6 +1,6 @@
 -- One coordinate, or one block.
 -- These are the answers to the goals of `Axis::is_steady`.
-use Rattle.std.proofs.Common.{◌≡◌, arith, sym, ap, ◌∙◌, subst, rules, FitsSigned, w64, eqb-true}
+use Rattle.std.proofs.Common.{◌≡◌, arith, sym, ap, ◌∙◌, subst, rules, FitsSigned, w64, to_z, eqb-true}
 use Rattle.std.proofs.lemmas.Int.{ints, to_z-of_z}
 use Rattle.dpl_map.specs.AxisFields.{axis_of, rule_of, IsRule}
 use Rattle.dpl_map.specs.Boxes.{IsSteady}
@@ -13,6 +13,14 @@ returns-then-self-eq1 c = λ yes.
     let a = axis_of c.self.inside in
     subst (λ b. IsSteady b c.args.low c.args.high) c.self.view_is
     (λ i from to. axis-one a i c.self.invariant c.if-self-eq1.true ∙ sym (axis-one a c.args.low c.self.invariant c.if-self-eq1.true))
+
+pub returns-then-low-high : goal.returns-then-low-high
+returns-then-low-high c = λ yes i from to.
+    let low_fits : FitsSigned w64 c.args.low = search rules in
+    let high_fits : FitsSigned w64 c.args.high = search rules in
+    let alone : c.args.low ≡ c.args.high = sym (to_z-of_z w64 c.args.low low_fits) ∙ ap (to_z w64) c.if-low-high.true ∙ to_z-of_z w64 c.args.high high_fits in
+    let same : i ≡ c.args.low = omega (arith, ints, from, to, alone) in
+    ap (axis_coordinate c.args.self.now) same
 
 pub returns-in-Block : goal.returns-in-Block
 returns-in-Block c = λ yes.
