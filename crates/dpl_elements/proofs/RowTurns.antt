@@ -20,7 +20,7 @@ use Rattle.dpl_nodes.specs.Steps.{array_leaf, element_set}
 use Rattle.dpl_nodes.proofs.Unread.{cell_read-int}
 use Rattle.dpl_loop.specs.declared.strip.Strip.{Strip}
 use Rattle.dpl_loop.specs.Runs.{AreDone}
-use Rattle.dpl_strips.specs.Strips.{IsSameAt, IsInTurn, HoldsInTurns, GoesFrom}
+use Rattle.dpl_strips.specs.Strips.{IsSameAt, IsInTurn, IsInOwnTurn, HoldsInTurns, GoesFrom}
 use Rattle.dpl_elements.specs.Changes.{signed}
 use Rattle.dpl_elements.specs.Rows.{ArePut}
 use Rattle.dpl_elements.specs.Turns.{bound_at, index_turn}
@@ -47,7 +47,7 @@ whole-row limits x sign turn first strip size s arrays put changes = record {
 module _
     (limits : Limits) (names : Names) (x : ArrayName) (index : IndexExpr) (op : Assign) (sign : Place) (e : IntExpr) (first at : Row) (strip : Strip) (size : ℕ) (s : Memory) (arrays : List Held)
     (put : ArePut limits x (signed op sign) at strip size s.arrays arrays) (begins : strip.row ≡ first) (few : size ≤ strip.size) (cap : size ≤ 64)
-    (values : HoldsInTurns names x.slot (λ u. value_of limits in_memory (int_view e) None u) s strip) (goes : GoesFrom limits names x.slot first s index at) where
+    (values : HoldsInTurns names (record { slot = x.slot; at = at }) (λ u. value_of limits in_memory (int_view e) None u) s strip) (goes : GoesFrom limits names x.slot first s index at) where
   -- in the turn of an index, with these arrays
   abbrev turn_with : ℕ → List Held → Memory
   turn_with k held = record (bound_at names (behind k first) s) { arrays = held }
@@ -72,7 +72,7 @@ module _
       let m = turn_with k (put.between k) in
       let w = Int (get_or strip.words k (pos 0)) in
       exec-element limits (array_leaf IntKind x) index op sign (int_view e) m done w (Ok (behind k at)) (cell_read-int e)
-      (values k (omega (arith, below, few)) (omega (arith, below, cap)) m (subst (λ t. IsInTurn names x.slot (behind k t) s m) (sym begins) (is-turn k)))
+      (values k (omega (arith, below, few)) (omega (arith, below, cap)) m (subst (λ row. IsInOwnTurn names (record { slot = x.slot; at = at }) row k s m) (sym begins) (record { turn = is-turn k; own = put.next k x.slot below })))
       (goes k (omega (arith, below, cap)) m (is-turn k))
       ∙ put.each k below m refl done
 

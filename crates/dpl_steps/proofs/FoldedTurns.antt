@@ -10,7 +10,7 @@ use Rattle.dpl_language.specs.Environment.{Limits}
 use Rattle.dpl_language.specs.Expressions.{value_of}
 use Rattle.dpl_language.specs.Statements.{exec, exec_all}
 use Rattle.dpl_words.specs.Words.{IntLeaf, intent_at}
-use Rattle.dpl_memory.specs.Memory.{PlainKind, Memory, no_array, with_value_in, in_memory}
+use Rattle.dpl_memory.specs.Memory.{PlainKind, Memory, no_array, array_at, held_at, with_value_in, in_memory}
 use Rattle.dpl_nodes.specs.declared.tree.IntExpr.{IntExpr}
 use Rattle.dpl_nodes.specs.declared.fold.IntFold.{IntFold}
 use Rattle.dpl_nodes.specs.declared.step.IntDeed.{IntDeed}
@@ -20,7 +20,7 @@ use Rattle.dpl_nodes.specs.Steps.{int_changed}
 use Rattle.dpl_nodes.proofs.Unread.{cell_read-int}
 use Rattle.dpl_loop.specs.declared.strip.Strip.{Strip}
 use Rattle.dpl_loop.specs.Runs.{AreDone}
-use Rattle.dpl_strips.specs.Strips.{IsInTurn, HoldsInTurns}
+use Rattle.dpl_strips.specs.Strips.{IsInTurn, IsInOwnTurn, HoldsInTurns}
 use Rattle.dpl_elements.specs.Changes.{int_changed_by, int_put, ends_as}
 use Rattle.dpl_elements.specs.Turns.{bound_at, IsApart, index_turn}
 use Rattle.dpl_elements.proofs.BoundAgain.{bound_at-arrays, bound_at-twice, bound_at-number, bound_at-long, bound_at-intents}
@@ -31,7 +31,7 @@ module _
     (limits : Limits) (names : Names) (deed : IntDeed) (slot : ℕ) (e : IntExpr) (fold : IntFold) (first : Row) (strip : Strip) (size : ℕ) (s : Memory)
     (apart : IsApart names slot) (there : slot < length s.words.numbers) (folds : Folds deed (intent_at slot s.words.intents) fold)
     (begins : strip.row ≡ first) (few : size ≤ strip.size) (cap : size ≤ 64)
-    (values : HoldsInTurns names slot (λ u. value_of limits in_memory (int_view e) None u) s strip) where
+    (values : HoldsInTurns names (record { slot = slot; at = first }) (λ u. value_of limits in_memory (int_view e) None u) s strip) where
   -- the word after so many turns
   abbrev word_after : ℕ → ℤ
   word_after k = folded_words fold (get_or s.words.numbers slot (pos 0)) strip.words k
@@ -60,6 +60,10 @@ module _
     arrays = λ j other. ap (λ held. get_or held j no_array) (bound_at-arrays names (behind k first) s);
   }
 
+  -- no array has changed
+  own : (k : ℕ) (n : ℤ) → held_at (behind k first) (array_at slot (turn_with k n)) ≡ held_at (behind k first) (array_at slot s)
+  own k n = ap (λ held. held_at (behind k first) (get_or held slot no_array)) (bound_at-arrays names (behind k first) s)
+
   folded : (k : ℕ) → k < size → (done : Deeds) → exec limits in_memory (int_changed deed slot (One (int_view e))) (turn_with k (word_after k)) done ≡ Done (turn_with k (word_after (suc k))) done
   folded k below done =
       let m = turn_with k (word_after k) in
@@ -70,7 +74,8 @@ module _
       exec-int limits deed slot (One (int_view e)) m done (cell_read-int e)
       ∙ ap (λ given. ends_as (int_changed_by limits given deed slot (One (int_view e)) m) done) does.0
       ∙ ap (λ r. ends_as (with_ok r (λ v. int_put deed slot v m)) done)
-      (values k (omega (arith, below, few)) (omega (arith, below, cap)) m (subst (λ t. IsInTurn names slot (behind k t) s m) (sym begins) (is-turn k (word_after k))))
+      (values k (omega (arith, below, few)) (omega (arith, below, cap)) m
+      (subst (λ row. IsInOwnTurn names (record { slot = slot; at = first }) row k s m) (sym begins) (record { turn = is-turn k (word_after k); own = own k (word_after k) })))
       ∙ ap (λ r. ends_as r done) does.1
       ∙ ap (λ n. Done (with_value_in (PlainKind IntLeaf) slot (Int (folded_one fold n w)) m) done) (get_or-set_same b.words.numbers slot (word_after k) (pos 0) within)
       ∙ ap {A = List ℤ} (λ ns. Done (record b { words = record b.words { numbers = ns } }) done) (set-set b.words.numbers slot (word_after k) (word_after (suc k)))

@@ -18,7 +18,7 @@ ghost use Rattle.dpl_values.specs.Reductions.{MayRefuseReduction, EachInRange};
 ghost use Rattle.dpl_readings.specs.Readings.{step_in, else_in, steps_in};
 ghost use Rattle.dpl_elements.specs.Turns.{in_turn, turn_in_memory, looped_over};
 
-use crate::change::change_int;
+use crate::change::{change_int, direct_number};
 use crate::context::Context;
 use crate::declare::declare_array;
 use crate::domain::{declare_domain, set_domain};
@@ -77,9 +77,34 @@ pub fn run<'t, C: Context>(
     Ok(())
 }
 
-// One statement.
+// One statement: what is done to an int at once, where its number is found directly, so that it needs no room for what may go wrong.
 #[cycle(run)]
+#[inline(always)]
 fn statement<'t, C: Context>(
+    step: &Step<'t>,
+    context: &C,
+    frame: &mut Frame<C::Kept>,
+    out: &mut C::Out,
+) -> Result<(), RunStop>
+    requires ready { C.is_ready context.now }
+    ensures ends { (done : Deeds) → RunsTo (MayRefuseSome (C.may_refuse context.now)) result frame.new.memory (C.having out.new done)
+        (exec frame.old.limits in_memory (step_in C.standing step.now) frame.old.memory (C.having out.old done)) }
+    ensures limits { frame.new.limits ≡ frame.old.limits }
+{
+    let Step::Int(deed, slot, e) = step else {
+        return any_statement(step, context, frame, out);
+    };
+    let Some(number) = direct_number(deed, *slot, e, frame) else {
+        return any_statement(step, context, frame, out);
+    };
+    frame.set_number(*slot, number);
+    Ok(())
+}
+
+// A statement of any kind.
+#[cycle(run)]
+#[inline(never)]
+fn any_statement<'t, C: Context>(
     step: &Step<'t>,
     context: &C,
     frame: &mut Frame<C::Kept>,

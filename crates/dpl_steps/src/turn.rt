@@ -19,7 +19,7 @@ use dpl_frame::{Arrays, Frame};
 use dpl_loop::{Row, STRIP, Strip};
 use dpl_nodes::{ArrayName, IndexExpr, IntDeed, IntExpr, Names, Spot, Step};
 use dpl_strips::index::{coordinate, plane, space};
-use dpl_strips::{turn_ints, turn_row};
+use dpl_strips::{Target, turn_ints, turn_row};
 use dpl_tree::Assign;
 
 // Whether the last coordinate of a row's indices stays in its word through a whole strip.
@@ -78,8 +78,12 @@ fn assign_row<'t, A: Arrays>(
     let Some(at) = turn_row(index, names, name.slot, row, frame) else {
         return 0;
     };
+    let target = Target {
+        slot: name.slot,
+        at,
+    };
     let mut strip = Strip::none(row);
-    turn_ints(e, names, name.slot, frame, &mut strip);
+    turn_ints(e, names, &target, frame, &mut strip);
     let made = put_row(name, op, sign, at, &mut strip, most, frame);
     if made > 0 {
         bind(names, behind(row, made - 1), frame);
@@ -120,8 +124,9 @@ fn fold_row<'t, A: Arrays>(
     let Some(fold) = fold_of(deed, frame.operator(slot)) else {
         return 0;
     };
+    let target = Target { slot, at: row };
     let mut strip = Strip::none(row);
-    turn_ints(e, names, slot, frame, &mut strip);
+    turn_ints(e, names, &target, frame, &mut strip);
     let made = strip.size.min(most).min(STRIP);
     if made > 0 {
         let word = folded(fold, frame.number(slot), &strip.words, made);

@@ -38,13 +38,13 @@ repeated (suc n) zero w below = refl
 repeated (suc n) (suc k) w below = repeated n k w (omega (arith, below))
 
 -- what is made of the ints of a strip and of words on their right, where that makes the whole's value of theirs
-pub both-hold : (Suits : Index → Memory → Type 0) (left_at right_at whole_at : Index → Memory → Result Value Fault) (op : Wrapping)
+pub both-hold : (Suits : Row → ℕ → Memory → Type 0) (left_at right_at whole_at : Index → Memory → Result Value Fault) (op : Wrapping)
     → ((t : Index) (u : Memory) (x y : ℤ) → left_at t u ≡ Ok (Int x) → right_at t u ≡ Ok (Int y) → whole_at t u ≡ Ok (Int (made_by op x y)))
     → (left made : Strip) (size : ℕ) (word : ℕ → ℤ) → made.row ≡ left.row → made.size ≤ left.size → ((k : ℕ) → k < made.size → k < 64 → k < size)
     → HoldsWhere Suits left_at left → HoldWhere Suits right_at left.row size word
     → ((k : ℕ) → k < made.size → k < 64 → get_or made.words k (pos 0) ≡ made_by op (get_or left.words k (pos 0)) (word k)) → HoldsWhere Suits whole_at made
 both-hold Suits left_at right_at whole_at op whole left made size word beside fewer in_right left_holds right_holds words k below within u suits =
-    let there : Suits (behind k left.row) u = subst (λ row. Suits (behind k row) u) beside suits in
+    let there : Suits left.row k u = subst (λ row. Suits row k u) beside suits in
     ap (λ row. whole_at (behind k row) u) beside
     ∙ whole (behind k left.row) u (get_or left.words k (pos 0)) (word k) (left_holds k (omega (arith, below, fewer)) within u there)
     (right_holds k (in_right k below within) within u there)
@@ -57,13 +57,13 @@ take-few (suc n) [] = omega arith
 take-few (suc n) (w ∷ ws) = omega (arith, take-few n ws)
 
 -- the first words of a strip are what its ints are
-pub first-hold : (Suits : Index → Memory → Type 0) (at : Index → Memory → Result Value Fault) (row : Row) (strip : Strip) (n : ℕ) → strip.row ≡ row
+pub first-hold : (Suits : Row → ℕ → Memory → Type 0) (at : Index → Memory → Result Value Fault) (row : Row) (strip : Strip) (n : ℕ) → strip.row ≡ row
     → n ≤ strip.size → HoldsWhere Suits at strip
     → HoldWhere Suits at row (length (take n strip.words)) (λ k. get_or (take n strip.words) k (pos 0))
 first-hold Suits at row strip n beside small holds k within below u suits =
     let inside : k < n = omega (arith, within, take-few n strip.words) in
     ap (λ row. at (behind k row) u) (sym beside)
-    ∙ holds k (omega (arith, inside, small)) below u (subst (λ row. Suits (behind k row) u) (sym beside) suits)
+    ∙ holds k (omega (arith, inside, small)) below u (subst (λ row. Suits row k u) (sym beside) suits)
     ∙ ap (λ n. Ok (Int n)) (sym (get_or-take n strip.words k (pos 0) inside))
 
 not_zero : (y : ℤ) → y ≢ pos 0 → int_eq y (pos 0) ≡ false

@@ -17,6 +17,7 @@ use Rattle.dpl_nodes.specs.declared.step.Names.{Names}
 use Rattle.dpl_nodes.specs.Typed.{int_view, index_exprs}
 use Rattle.dpl_nodes.specs.Steps.{names_view}
 use Rattle.dpl_loop.specs.declared.strip.Strip.{Strip}
+use Rattle.dpl_strips.specs.declared.target.Target.{Target}
 use Rattle.dpl_strips.specs.declared.pace.Pace.{Pace}
 use Rattle.dpl_strips.specs.declared.pace.Pace.TheVariants.{Steady, Stepping}
 use Rattle.dpl_strips.specs.declared.apply.Wrapping.{Wrapping}
@@ -30,17 +31,17 @@ pub record IsSameAt (t : Index) (s u : Memory) : Type 0 where
   pub elements : (slot : ℕ) → held_at t (array_at slot u) ≡ held_at t (array_at slot s)
 
 -- each of so many words is the int that is meant at its index of a row, in each memory that suits the index
-abbrev pub HoldWhere : (Index → Memory → Type 0) → (Index → Memory → Result Value Fault) → Row → ℕ → (ℕ → ℤ) → Type 0
+abbrev pub HoldWhere : (Row → ℕ → Memory → Type 0) → (Index → Memory → Result Value Fault) → Row → ℕ → (ℕ → ℤ) → Type 0
 HoldWhere Suits meaning row size word =
-    (k : ℕ) → k < size → k < 64 → (u : Memory) → Suits (behind k row) u → meaning (behind k row) u ≡ Ok (Int (word k))
+    (k : ℕ) → k < size → k < 64 → (u : Memory) → Suits row k u → meaning (behind k row) u ≡ Ok (Int (word k))
 
 -- and so are the ints of a strip
-abbrev pub HoldsWhere : (Index → Memory → Type 0) → (Index → Memory → Result Value Fault) → Strip → Type 0
+abbrev pub HoldsWhere : (Row → ℕ → Memory → Type 0) → (Index → Memory → Result Value Fault) → Strip → Type 0
 HoldsWhere Suits meaning strip = HoldWhere Suits meaning strip.row strip.size (λ k. get_or strip.words k (pos 0))
 
 -- each int of a strip is the value at its index, also where elements at other indices have changed
 abbrev pub HoldsAtIndices : (Index → Memory → Result Value Fault) → Memory → Strip → Type 0
-HoldsAtIndices meaning s strip = HoldsWhere (λ t u. IsSameAt t s u) meaning strip
+HoldsAtIndices meaning s strip = HoldsWhere (λ row k u. IsSameAt (behind k row) s u) meaning strip
 
 -- a memory in the turn of an index: the variables of the loop hold the index, and else the word and the array of one slot alone may have
 -- changed
@@ -49,9 +50,14 @@ pub record IsInTurn (names : Names) (target : ℕ) (t : Index) (s u : Memory) : 
   pub tuples : (slot : ℕ) → get_or u.tuples slot no_tuple ≡ get_or (bound_to in_memory (names_view names) (Domain []) t s).tuples slot no_tuple
   pub arrays : (slot : ℕ) → slot ≢ target → array_at slot u ≡ array_at slot s
 
+-- and in the k-th turn of a row, before it writes: of the array that the turns write, its own element hasn't changed
+pub record IsInOwnTurn (names : Names) (target : Target) (row : Row) (k : ℕ) (s u : Memory) : Type 0 where
+  pub turn : IsInTurn names target.slot (behind k row) s u
+  pub own : held_at (behind k target.at) (array_at target.slot u) ≡ held_at (behind k target.at) (array_at target.slot s)
+
 -- each int of a strip is the value in the turn of its index
-abbrev pub HoldsInTurns : Names → ℕ → (Memory → Result Value Fault) → Memory → Strip → Type 0
-HoldsInTurns names target meaning s strip = HoldsWhere (λ t u. IsInTurn names target t s u) (λ t u. meaning u) strip
+abbrev pub HoldsInTurns : Names → Target → (Memory → Result Value Fault) → Memory → Strip → Type 0
+HoldsInTurns names target meaning s strip = HoldsWhere (λ row k u. IsInOwnTurn names target row k s u) (λ t u. meaning u) strip
 
 -- OPERATORS that have no fault: how they stand in a tree, and what they make of two ints
 abbrev pub infix_of : Wrapping → Infix
@@ -74,7 +80,7 @@ right_word (right.Int n) k = n
 right_word (right.Words ws) k = get_or ws.now k (pos 0)
 
 -- it is what is meant at the indices of a row
-abbrev pub RightHolds : (Index → Memory → Type 0) → (Index → Memory → Result Value Fault) → Row → Right → Type 0
+abbrev pub RightHolds : (Row → ℕ → Memory → Type 0) → (Index → Memory → Result Value Fault) → Row → Right → Type 0
 RightHolds Suits meaning row r = HoldWhere Suits meaning row (right_size r) (right_word r)
 
 -- the int in the k-th turn of one that goes so along a row of such a step

@@ -1,8 +1,8 @@
 // Strips: the ints of several indices at once, of an expression over whole arrays and of one in the turns of a forall.
 // A strip says of each int that it has that it is the value at its index, and never how many it has: whoever asks for one goes on index by
 // index where it has none, so that a fault and its turn are the walk's alone. It is read before the turns that write, so it must not see what
-// they write. A promoted expression reads at the index that is written alone; an expression in a turn reads elsewhere, so it has no strip
-// where it reads the word or the array that the turn writes (specs/Strips.antt: `IsSameAt`, `IsInTurn`).
+// they write. A promoted expression reads at the index that is written alone; an expression in a turn may read elsewhere, so it has no strip
+// where it reads the word that turns write, or another element of their array than its own turn's (specs/Strips.antt: `IsSameAt`, `IsInOwnTurn`).
 #![tactic(auto)]
 
 mod apply;
@@ -10,8 +10,10 @@ pub mod index;
 pub mod number;
 mod pace;
 mod strip;
+mod target;
 mod turn_strips;
 
 pub use apply::repeat;
 pub use strip::{promoted_ints, promoted_strip};
+pub use target::Target;
 pub use turn_strips::{turn_ints, turn_row};

@@ -5,6 +5,7 @@
 
 ghost use Rattle.std.specs.Prelude.{◌≡◌, ◌<◌, ℕ, pos, Ok, Some, get_or, slice_get, IfSome};
 ghost use Rattle.dpl_syntax.specs.declared.place.Place.{Place};
+ghost use Rattle.dpl_array.specs.Elements.{behind};
 ghost use Rattle.dpl_language.specs.Tree.{Minus, Divide, Remainder, Prefixed};
 ghost use Rattle.dpl_language.specs.Values.{Int, Index as IndexValue};
 ghost use Rattle.dpl_language.specs.Expressions.{value_of};
@@ -33,7 +34,7 @@ fn steady<A: Arrays>(e: &PromotedInt<'_>, frame: &Frame<A>) -> Option<i64>
 
 // A right side that needs no strip.
 fn right_of<'f, A: Arrays>(e: &PromotedInt<'_>, row: Row, frame: &'f Frame<A>) -> Option<Right<'f>>
-    ensures { IfSome result (RightHolds (λ i u. IsSameAt i frame.now.memory u)
+    ensures { IfSome result (RightHolds (λ row k u. IsSameAt (behind k row) frame.now.memory u)
         (λ i u. value_of frame.now.limits in_memory (promoted_int EachTurn e.now) (Some i) u) row) }
 {
     match e {

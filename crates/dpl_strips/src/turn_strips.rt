@@ -1,7 +1,7 @@
 // The ints of an expression in several turns of a loop at once, and where the elements lie that these turns find.
-// What is read is read before the turns, and so from no slot that they write. Strips are made as in strip.rt.
+// What is read is read before the turns, and so of what they write only the element that a turn writes itself. Strips are made as in strip.rt.
 
-ghost use Rattle.std.specs.Prelude.{◌≡◌, ◌<◌, ℕ, pos, ◌+ℤ◌, ◌*ℤ◌, None, get_or, length, IfSome};
+ghost use Rattle.std.specs.Prelude.{◌≡◌, ◌<◌, ℕ, pos, ◌+ℤ◌, ◌*ℤ◌, IsTrue, None, get_or, length, IfSome};
 ghost use Rattle.dpl_syntax.specs.declared.place.Place.{Place};
 ghost use Rattle.dpl_language.specs.Arithmetic.{wrap};
 ghost use Rattle.dpl_language.specs.Tree.{IntKind, Minus, Divide, Remainder, Prefixed};
@@ -10,12 +10,13 @@ ghost use Rattle.dpl_lowered.specs.Shapes.{nowhere, two};
 ghost use Rattle.dpl_memory.specs.Memory.{in_memory};
 ghost use Rattle.dpl_nodes.specs.declared.tree.IndexExpr.{Tuple as TupleIndex};
 ghost use Rattle.dpl_nodes.specs.Typed.{array_named, in_square, index_items, int_view};
-ghost use Rattle.dpl_strips.specs.Strips.{paced, FitsTurns, IsInTurn, HoldWhere, HoldsInTurns, RightHolds, GoesFrom, infix_of};
+ghost use Rattle.dpl_strips.specs.Strips.{paced, FitsTurns, IsInOwnTurn, HoldWhere, HoldsInTurns, RightHolds, GoesFrom, infix_of};
 
 use crate::apply::{Right, Wrapping, apply, copy, divide, leave, negate, repeat};
 use crate::index::{coordinate, plane, space};
 use crate::number::sum;
 use crate::pace::{Pace, first_step, pace_of, steady};
+use crate::target::Target;
 use dpl_domain::Index;
 use dpl_frame::{Arrays, Frame};
 use dpl_loop::{Row, STRIP, Strip};
@@ -104,23 +105,33 @@ pub fn turn_row<A: Arrays>(
     Some(row.begun_at(first))
 }
 
-// The elements of an array that the turns find, where they lie side by side and no turn writes them.
+// Whether two rows are the same.
+fn is_same(a: Row, b: Row) -> bool
+    ensures { IsTrue result → a ≡ b }
+{
+    a.first() == b.first() && a.step() == b.step()
+}
+
+// The elements of an array that the turns find, where they lie side by side and no other turn writes them.
 fn elements<'f, A: Arrays>(
     slot: usize,
     index: &IndexExpr<'_>,
     names: &Names<'_>,
-    target: usize,
+    target: &Target,
     row: Row,
     frame: &'f Frame<A>,
 ) -> Option<&'f [i64]>
-    ensures { (at : Place) → IfSome result (λ words. HoldWhere (λ t u. IsInTurn names.now target t frame.now.memory u)
+    ensures { (at : Place) → IfSome result (λ words. HoldWhere (λ row k u. IsInOwnTurn names.now target.now row k frame.now.memory u)
         (λ t u. value_of frame.now.limits in_memory (in_square (array_named IntKind slot at) (index_items index.now)) None u)
         row (length words.now) (λ k. get_or words.now k (pos 0))) }
 {
-    if slot == target {
+    let at = turn_row(index, names, target.slot, row, frame)?;
+    if slot != target.slot {
+        return Some(frame.run(slot, at));
+    }
+    if !is_same(at, target.at) {
         return None;
     }
-    let at = turn_row(index, names, target, row, frame)?;
     Some(frame.run(slot, at))
 }
 
@@ -128,11 +139,11 @@ fn elements<'f, A: Arrays>(
 fn right_of<'f, A: Arrays>(
     e: &IntExpr<'_>,
     names: &Names<'_>,
-    target: usize,
+    target: &Target,
     row: Row,
     frame: &'f Frame<A>,
 ) -> Option<Right<'f>>
-    ensures { IfSome result (RightHolds (λ t u. IsInTurn names.now target t frame.now.memory u)
+    ensures { IfSome result (RightHolds (λ row k u. IsInOwnTurn names.now target.now row k frame.now.memory u)
         (λ t u. value_of frame.now.limits in_memory (int_view e.now) None u) row) }
 {
     match e {
@@ -142,7 +153,7 @@ fn right_of<'f, A: Arrays>(
                 None => None,
             }
         }
-        _ => match steady(e, names, target, row, frame) {
+        _ => match steady(e, names, target.slot, row, frame) {
             Some(n) => Some(Right::Int(n)),
             None => None,
         },
@@ -153,14 +164,14 @@ fn right_of<'f, A: Arrays>(
 fn leaf<A: Arrays>(
     e: &IntExpr<'_>,
     names: &Names<'_>,
-    target: usize,
+    target: &Target,
     frame: &Frame<A>,
     strip: &mut Strip,
 )
     ensures row { strip.new.row ≡ strip.old.row }
-    ensures values { HoldsInTurns names.now target (λ u. value_of frame.now.limits in_memory (int_view e.now) None u) frame.now.memory strip.new }
+    ensures values { HoldsInTurns names.now target.now (λ u. value_of frame.now.limits in_memory (int_view e.now) None u) frame.now.memory strip.new }
 {
-    match pace_of(e, names, target, strip.row, frame) {
+    match pace_of(e, names, target.slot, strip.row, frame) {
         Some(told) => pace(strip, told),
         None => strip.size = 0,
     }
@@ -171,12 +182,12 @@ fn element<A: Arrays>(
     slot: usize,
     index: &IndexExpr<'_>,
     names: &Names<'_>,
-    target: usize,
+    target: &Target,
     frame: &Frame<A>,
     strip: &mut Strip,
 )
     ensures row { strip.new.row ≡ strip.old.row }
-    ensures values { (at : Place) → HoldsInTurns names.now target (λ u. value_of frame.now.limits in_memory
+    ensures values { (at : Place) → HoldsInTurns names.now target.now (λ u. value_of frame.now.limits in_memory
         (in_square (array_named IntKind slot at) (index_items index.now)) None u) frame.now.memory strip.new }
 {
     match elements(slot, index, names, target, strip.row, frame) {
@@ -191,12 +202,12 @@ fn element<A: Arrays>(
 fn negatives<A: Arrays>(
     e: &IntExpr<'_>,
     names: &Names<'_>,
-    target: usize,
+    target: &Target,
     frame: &Frame<A>,
     strip: &mut Strip,
 )
     ensures row { strip.new.row ≡ strip.old.row }
-    ensures values { HoldsInTurns names.now target (λ u. value_of frame.now.limits in_memory
+    ensures values { HoldsInTurns names.now target.now (λ u. value_of frame.now.limits in_memory
         (Prefixed nowhere Minus (int_view e.now)) None u) frame.now.memory strip.new }
 {
     turn_ints(e, names, target, frame, strip);
@@ -211,12 +222,12 @@ fn of_two<A: Arrays>(
     a: &IntExpr<'_>,
     b: &IntExpr<'_>,
     names: &Names<'_>,
-    target: usize,
+    target: &Target,
     frame: &Frame<A>,
     strip: &mut Strip,
 )
     ensures row { strip.new.row ≡ strip.old.row }
-    ensures values { HoldsInTurns names.now target (λ u. value_of frame.now.limits in_memory
+    ensures values { HoldsInTurns names.now target.now (λ u. value_of frame.now.limits in_memory
         (two (int_view a.now) nowhere (infix_of op) (int_view b.now)) None u) frame.now.memory strip.new }
 {
     let mut right = Strip::none(strip.row);
@@ -234,12 +245,12 @@ fn both<A: Arrays>(
     a: &IntExpr<'_>,
     b: &IntExpr<'_>,
     names: &Names<'_>,
-    target: usize,
+    target: &Target,
     frame: &Frame<A>,
     strip: &mut Strip,
 )
     ensures row { strip.new.row ≡ strip.old.row }
-    ensures values { HoldsInTurns names.now target (λ u. value_of frame.now.limits in_memory
+    ensures values { HoldsInTurns names.now target.now (λ u. value_of frame.now.limits in_memory
         (two (int_view a.now) nowhere (infix_of op) (int_view b.now)) None u) frame.now.memory strip.new }
 {
     let Some(right) = right_of(b, names, target, strip.row, frame) else {
@@ -257,15 +268,15 @@ fn quotients<A: Arrays>(
     a: &IntExpr<'_>,
     b: &IntExpr<'_>,
     names: &Names<'_>,
-    target: usize,
+    target: &Target,
     frame: &Frame<A>,
     strip: &mut Strip,
 )
     ensures row { strip.new.row ≡ strip.old.row }
-    ensures values { (at : Place) → HoldsInTurns names.now target (λ u. value_of frame.now.limits in_memory
+    ensures values { (at : Place) → HoldsInTurns names.now target.now (λ u. value_of frame.now.limits in_memory
         (two (int_view a.now) at Divide (int_view b.now)) None u) frame.now.memory strip.new }
 {
-    match steady(b, names, target, strip.row, frame) {
+    match steady(b, names, target.slot, strip.row, frame) {
         Some(n) if n != 0 => {
             turn_ints(a, names, target, frame, strip);
             divide(strip, n);
@@ -281,15 +292,15 @@ fn remainders<A: Arrays>(
     a: &IntExpr<'_>,
     b: &IntExpr<'_>,
     names: &Names<'_>,
-    target: usize,
+    target: &Target,
     frame: &Frame<A>,
     strip: &mut Strip,
 )
     ensures row { strip.new.row ≡ strip.old.row }
-    ensures values { (at : Place) → HoldsInTurns names.now target (λ u. value_of frame.now.limits in_memory
+    ensures values { (at : Place) → HoldsInTurns names.now target.now (λ u. value_of frame.now.limits in_memory
         (two (int_view a.now) at Remainder (int_view b.now)) None u) frame.now.memory strip.new }
 {
-    match steady(b, names, target, strip.row, frame) {
+    match steady(b, names, target.slot, strip.row, frame) {
         Some(n) if n != 0 => {
             turn_ints(a, names, target, frame, strip);
             leave(strip, n);
@@ -299,17 +310,17 @@ fn remainders<A: Arrays>(
 }
 
 /// Makes a strip the ints of an expression in the turns of its row's indices, as far as they are found at once. There may be none. The turns
-/// may write the word or the array in one slot, which is not read here.
+/// may write the word in one slot, which is not read here, or elements of the array in it, of which each turn reads no other than it writes.
 #[cycle(turns)]
 pub fn turn_ints<A: Arrays>(
     e: &IntExpr<'_>,
     names: &Names<'_>,
-    target: usize,
+    target: &Target,
     frame: &Frame<A>,
     strip: &mut Strip,
 )
     ensures row { strip.new.row ≡ strip.old.row }
-    ensures values { HoldsInTurns names.now target (λ u. value_of frame.now.limits in_memory (int_view e.now) None u) frame.now.memory strip.new }
+    ensures values { HoldsInTurns names.now target.now (λ u. value_of frame.now.limits in_memory (int_view e.now) None u) frame.now.memory strip.new }
 {
     match e {
         IntExpr::Number(_) | IntExpr::Local(_) => leaf(e, names, target, frame, strip),

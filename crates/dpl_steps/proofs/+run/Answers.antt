@@ -28,8 +28,8 @@ use Rattle.dpl_readings.proofs.Views.{for_each_in, forall_in, block_in, if_in, w
 use Rattle.dpl_steps.proofs.+run.Goals as goal
 
 -- DECLARATIONS AND ASSIGNMENTS
-pub statement::statement-returns-in-Int-clause-ends : goal.statement::statement-returns-in-Int-clause-ends
-statement::statement-returns-in-Int-clause-ends g t c done =
+pub statement::any_statement-returns-in-Int-clause-ends : goal.statement::any_statement-returns-in-Int-clause-ends
+statement::any_statement-returns-in-Int-clause-ends g t c done =
     let having = g.C.Context.having in
     let standing = g.C.Context.standing in
     let limits = c.args.frame.now.limits in
@@ -39,8 +39,8 @@ statement::statement-returns-in-Int-clause-ends g t c done =
     (ap (λ s. exec limits in_memory (step_in standing s) w d) c.in-Int.is ∙ exec-int limits c.in-Int.deed c.in-Int.slot (One (int_view c.in-Int.e.now)) w d (cell_read-int c.in-Int.e.now))
     c.change_int.ensures.memory
 
-pub statement::statement-returns-in-DeclareRange-clause-ends : goal.statement::statement-returns-in-DeclareRange-clause-ends
-statement::statement-returns-in-DeclareRange-clause-ends g t c done =
+pub statement::any_statement-returns-in-DeclareRange-clause-ends : goal.statement::any_statement-returns-in-DeclareRange-clause-ends
+statement::any_statement-returns-in-DeclareRange-clause-ends g t c done =
     let having = g.C.Context.having in
     let standing = g.C.Context.standing in
     let limits = c.args.frame.now.limits in
@@ -50,8 +50,8 @@ statement::statement-returns-in-DeclareRange-clause-ends g t c done =
     (ap (λ s. exec limits in_memory (step_in standing s) w d) c.in-DeclareRange.is ∙ exec-declared limits RangeLeaf c.in-DeclareRange.slot (range_item c.in-DeclareRange.e.now) w d (item_read-range c.in-DeclareRange.e.now))
     (c.range.ensures.ends d)
 
-pub statement::statement-returns-in-SetRange-clause-ends : goal.statement::statement-returns-in-SetRange-clause-ends
-statement::statement-returns-in-SetRange-clause-ends g t c done =
+pub statement::any_statement-returns-in-SetRange-clause-ends : goal.statement::any_statement-returns-in-SetRange-clause-ends
+statement::any_statement-returns-in-SetRange-clause-ends g t c done =
     let having = g.C.Context.having in
     let standing = g.C.Context.standing in
     let limits = c.args.frame.now.limits in
@@ -61,8 +61,8 @@ statement::statement-returns-in-SetRange-clause-ends g t c done =
     (ap (λ s. exec limits in_memory (step_in standing s) w d) c.in-SetRange.is ∙ exec-assigned limits RangeLeaf c.in-SetRange.slot Set nowhere (range_item c.in-SetRange.e.now) w d (item_read-range c.in-SetRange.e.now))
     (c.range-in-SetRange.ensures.ends d)
 
-pub statement::statement-returns-in-Truth-clause-ends : goal.statement::statement-returns-in-Truth-clause-ends
-statement::statement-returns-in-Truth-clause-ends g t c done =
+pub statement::any_statement-returns-in-Truth-clause-ends : goal.statement::any_statement-returns-in-Truth-clause-ends
+statement::any_statement-returns-in-Truth-clause-ends g t c done =
     let having = g.C.Context.having in
     let standing = g.C.Context.standing in
     let d = having c.args.out.now done in
@@ -109,24 +109,24 @@ statement::turns-loop-k-preserved g t c =
     }
 
 -- DOMAINS AND ARRAYS
-pub statement::statement-returns-in-DeclareDomain-clause-ends : goal.statement::statement-returns-in-DeclareDomain-clause-ends
-statement::statement-returns-in-DeclareDomain-clause-ends g t c done =
+pub statement::any_statement-returns-in-DeclareDomain-clause-ends : goal.statement::any_statement-returns-in-DeclareDomain-clause-ends
+statement::any_statement-returns-in-DeclareDomain-clause-ends g t c done =
     let having = g.C.Context.having in
     let standing = g.C.Context.standing in
     let d = having c.args.out.now done in
     ends-alike _ c.declare_domain.result c.declare_domain.new.frame.memory d _ _
     (ap (λ s. exec c.args.frame.now.limits in_memory (step_in standing s) c.args.frame.now.memory d) c.in-DeclareDomain.is) (c.declare_domain.ensures.ends d)
 
-pub statement::statement-returns-in-SetDomain-clause-ends : goal.statement::statement-returns-in-SetDomain-clause-ends
-statement::statement-returns-in-SetDomain-clause-ends g t c done =
+pub statement::any_statement-returns-in-SetDomain-clause-ends : goal.statement::any_statement-returns-in-SetDomain-clause-ends
+statement::any_statement-returns-in-SetDomain-clause-ends g t c done =
     let having = g.C.Context.having in
     let standing = g.C.Context.standing in
     let d = having c.args.out.now done in
     ends-alike _ c.set_domain.result c.set_domain.new.frame.memory d _ _
     (ap (λ s. exec c.args.frame.now.limits in_memory (step_in standing s) c.args.frame.now.memory d) c.in-SetDomain.is) (c.set_domain.ensures.ends d)
 
-pub statement::statement-returns-in-DeclareArray-clause-ends : goal.statement::statement-returns-in-DeclareArray-clause-ends
-statement::statement-returns-in-DeclareArray-clause-ends g t c done =
+pub statement::any_statement-returns-in-DeclareArray-clause-ends : goal.statement::any_statement-returns-in-DeclareArray-clause-ends
+statement::any_statement-returns-in-DeclareArray-clause-ends g t c done =
     let having = g.C.Context.having in
     let standing = g.C.Context.standing in
     let d = having c.args.out.now done in
@@ -134,24 +134,24 @@ statement::statement-returns-in-DeclareArray-clause-ends g t c done =
     (some-of-array _ c.args.frame.now c.in-DeclareArray.declared.now)
     (ap (λ s. exec c.args.frame.now.limits in_memory (step_in standing s) c.args.frame.now.memory d) c.in-DeclareArray.is) (c.declare_array.ensures.ends d)
 
-pub statement::statement-returns-in-SetElement-clause-ends : goal.statement::statement-returns-in-SetElement-clause-ends
-statement::statement-returns-in-SetElement-clause-ends g t c done =
+pub statement::any_statement-returns-in-SetElement-clause-ends : goal.statement::any_statement-returns-in-SetElement-clause-ends
+statement::any_statement-returns-in-SetElement-clause-ends g t c done =
     let having = g.C.Context.having in
     let standing = g.C.Context.standing in
     let d = having c.args.out.now done in
     ends-alike _ c.element.result c.element.new.frame.memory d _ _
     (ap (λ s. exec c.args.frame.now.limits in_memory (step_in standing s) c.args.frame.now.memory d) c.in-SetElement.is) (c.element.ensures.ends d)
 
-pub statement::statement-returns-in-SetArray-clause-ends : goal.statement::statement-returns-in-SetArray-clause-ends
-statement::statement-returns-in-SetArray-clause-ends g t c done =
+pub statement::any_statement-returns-in-SetArray-clause-ends : goal.statement::any_statement-returns-in-SetArray-clause-ends
+statement::any_statement-returns-in-SetArray-clause-ends g t c done =
     let having = g.C.Context.having in
     let standing = g.C.Context.standing in
     let d = having c.args.out.now done in
     ends-wider _ _ c.set_array.result c.set_array.new.frame.memory d _ _ (some-of-whole _ c.args.frame.now (EachInInts c.in-SetArray.e.now) _ _)
     (ap (λ s. exec c.args.frame.now.limits in_memory (step_in standing s) c.args.frame.now.memory d) c.in-SetArray.is) (c.set_array.ensures.ends d)
 
-pub statement::statement-returns-in-SetTruthArray-clause-ends : goal.statement::statement-returns-in-SetTruthArray-clause-ends
-statement::statement-returns-in-SetTruthArray-clause-ends g t c done =
+pub statement::any_statement-returns-in-SetTruthArray-clause-ends : goal.statement::any_statement-returns-in-SetTruthArray-clause-ends
+statement::any_statement-returns-in-SetTruthArray-clause-ends g t c done =
     let having = g.C.Context.having in
     let standing = g.C.Context.standing in
     let d = having c.args.out.now done in
@@ -159,8 +159,8 @@ statement::statement-returns-in-SetTruthArray-clause-ends g t c done =
     (ap (λ s. exec c.args.frame.now.limits in_memory (step_in standing s) c.args.frame.now.memory d) c.in-SetTruthArray.is) (c.set_truth_array.ensures.ends d)
 
 -- BLOCKS, BRANCHES AND LOOPS
-pub statement::statement-returns-in-Block-clause-ends : goal.statement::statement-returns-in-Block-clause-ends
-statement::statement-returns-in-Block-clause-ends g t c done =
+pub statement::any_statement-returns-in-Block-clause-ends : goal.statement::any_statement-returns-in-Block-clause-ends
+statement::any_statement-returns-in-Block-clause-ends g t c done =
     let having = g.C.Context.having in
     let standing = g.C.Context.standing in
     let limits = c.args.frame.now.limits in
@@ -170,8 +170,8 @@ statement::statement-returns-in-Block-clause-ends g t c done =
     (ap (λ s. exec limits in_memory (step_in standing s) w d) c.in-Block.is ∙ ap (λ t. exec limits in_memory t w d) (block_in standing c.in-Block.steps) ∙ scoped-same (exec_all limits in_memory (steps_in standing c.in-Block.steps.now)) w d)
     (c.run.ensures.ends done)
 
-pub statement::statement-returns-then-get-clause-ends : goal.statement::statement-returns-then-get-clause-ends
-statement::statement-returns-then-get-clause-ends g t c done =
+pub statement::any_statement-returns-then-get-clause-ends : goal.statement::any_statement-returns-then-get-clause-ends
+statement::any_statement-returns-then-get-clause-ends g t c done =
     let having = g.C.Context.having in
     let standing = g.C.Context.standing in
     let limits = c.args.frame.now.limits in
@@ -184,8 +184,8 @@ statement::statement-returns-then-get-clause-ends g t c done =
     ∙ if-then limits (truth_view c.in-If.condition.now) (steps_in standing c.in-If.body.now) (else_in standing c.in-If.otherwise) w d (c.in_ok-truth_value-in-If.ensures ∙ ap (λ b. Ok (Truth b)) holding))
     (c.run-then-get.ensures.ends done)
 
-pub statement::statement-returns-in-While-clause-ends : goal.statement::statement-returns-in-While-clause-ends
-statement::statement-returns-in-While-clause-ends g t c done =
+pub statement::any_statement-returns-in-While-clause-ends : goal.statement::any_statement-returns-in-While-clause-ends
+statement::any_statement-returns-in-While-clause-ends g t c done =
     let having = g.C.Context.having in
     let standing = g.C.Context.standing in
     let limits = c.args.frame.now.limits in
@@ -197,8 +197,8 @@ statement::statement-returns-in-While-clause-ends g t c done =
     ∙ exec-while limits c.in-While.at.now (truth_view c.in-While.condition.now) (steps_in standing c.in-While.body.now) w d)
     (c.while_loop.ensures.ends done)
 
-pub statement::statement-returns-in-For-clause-ends : goal.statement::statement-returns-in-For-clause-ends
-statement::statement-returns-in-For-clause-ends g t c done =
+pub statement::any_statement-returns-in-For-clause-ends : goal.statement::any_statement-returns-in-For-clause-ends
+statement::any_statement-returns-in-For-clause-ends g t c done =
     let having = g.C.Context.having in
     let standing = g.C.Context.standing in
     let limits = c.args.frame.now.limits in
@@ -209,8 +209,8 @@ statement::statement-returns-in-For-clause-ends g t c done =
     ∙ ap (λ t. exec limits in_memory t w d) (for_in standing c.in-For.at c.in-For.slot c.in-For.over c.in-For.body))
     (c.for_loop.ensures.ends done)
 
-pub statement::statement-returns-in-Forall-clause-ends : goal.statement::statement-returns-in-Forall-clause-ends
-statement::statement-returns-in-Forall-clause-ends g t c done =
+pub statement::any_statement-returns-in-Forall-clause-ends : goal.statement::any_statement-returns-in-Forall-clause-ends
+statement::any_statement-returns-in-Forall-clause-ends g t c done =
     let having = g.C.Context.having in
     let standing = g.C.Context.standing in
     let limits = c.args.frame.now.limits in
@@ -300,8 +300,8 @@ statement::while_loop-returns-clause-ends g t c done =
     (holds-value limits e w false (ap (λ l. value_of l in_memory e None w) (sym c.loop-left.invariant.limits) ∙ c.in_ok-truth_value.ensures ∙ ap (λ b. Ok (Truth b)) holding))
 
 -- LOOPS OVER DOMAINS
-pub statement::statement-returns-in-ForEach-clause-ends : goal.statement::statement-returns-in-ForEach-clause-ends
-statement::statement-returns-in-ForEach-clause-ends g t c done =
+pub statement::any_statement-returns-in-ForEach-clause-ends : goal.statement::any_statement-returns-in-ForEach-clause-ends
+statement::any_statement-returns-in-ForEach-clause-ends g t c done =
     let having = g.C.Context.having in
     let standing = g.C.Context.standing in
     let limits = c.args.frame.now.limits in
@@ -312,8 +312,8 @@ statement::statement-returns-in-ForEach-clause-ends g t c done =
     ∙ ap (λ t. exec limits in_memory t w d) (for_each_in standing c.in-ForEach.at c.in-ForEach.names c.in-ForEach.over c.in-ForEach.body))
     (c.for_each.ensures.ends done)
 
-pub statement::statement-returns-in-ForallEach-clause-ends : goal.statement::statement-returns-in-ForallEach-clause-ends
-statement::statement-returns-in-ForallEach-clause-ends g t c done =
+pub statement::any_statement-returns-in-ForallEach-clause-ends : goal.statement::any_statement-returns-in-ForallEach-clause-ends
+statement::any_statement-returns-in-ForallEach-clause-ends g t c done =
     let having = g.C.Context.having in
     let standing = g.C.Context.standing in
     let limits = c.args.frame.now.limits in

@@ -1,6 +1,7 @@
 -- What an operator makes of both sides is the whole's value.
 -- These are the answers to the goals of the functions of operators on promoted ints.
 use Rattle.std.proofs.Common.{Some, subst, sym, ◌∙◌, rules}
+use Rattle.dpl_array.specs.Elements.{behind}
 use Rattle.dpl_language.specs.Values.{Index}
 use Rattle.dpl_language.specs.Tree.{ExprTree}
 use Rattle.dpl_language.specs.Expressions.{value_of}
@@ -19,9 +20,9 @@ both-returns-clause-values g t c =
     let b = promoted_int EachTurn c.args.b.now in
     let right = c.in-Some.right in
     let at = λ (e : ExprTree Variable) (i : Index) (u : Memory). value_of frame.limits in_memory e (Some i) u in
-    both-hold (λ i u. IsSameAt i frame.memory u) (at a) (at b) (at (two a nowhere (infix_of c.args.op) b)) c.args.op (λ i u x y left right. both-at frame.limits a b (Some i) u x y left right c.args.op)
+    both-hold (λ row k u. IsSameAt (behind k row) frame.memory u) (at a) (at b) (at (two a nowhere (infix_of c.args.op) b)) c.args.op (λ i u x y left right. both-at frame.limits a b (Some i) u x y left right c.args.op)
     c.promoted_ints.new.strip c.apply.new.strip (right_size right) (right_word right) c.apply.ensures.row c.apply.ensures.left c.apply.ensures.right c.promoted_ints.ensures.values
-    (subst (λ row. RightHolds (λ i u. IsSameAt i frame.memory u) (at b) row right) (sym c.promoted_ints.ensures.row) c.in-Some.ensures) c.apply.ensures.words
+    (subst (λ row. RightHolds (λ row k u. IsSameAt (behind k row) frame.memory u) (at b) row right) (sym c.promoted_ints.ensures.row) c.in-Some.ensures) c.apply.ensures.words
 
 pub of_two-returns-clause-values : goal.of_two-returns-clause-values
 of_two-returns-clause-values g t c =
@@ -31,8 +32,8 @@ of_two-returns-clause-values g t c =
     let right = c.promoted_ints-2.new.strip in
     let size = c.min-size.result in
     let at = λ (e : ExprTree Variable) (i : Index) (u : Memory). value_of frame.limits in_memory e (Some i) u in
-    both-hold (λ i u. IsSameAt i frame.memory u) (at a) (at b) (at (two a nowhere (infix_of c.args.op) b)) c.args.op (λ i u x y left right. both-at frame.limits a b (Some i) u x y left right c.args.op)
+    both-hold (λ row k u. IsSameAt (behind k row) frame.memory u) (at a) (at b) (at (two a nowhere (infix_of c.args.op) b)) c.args.op (λ i u x y left right. both-at frame.limits a b (Some i) u x y left right c.args.op)
     c.promoted_ints.new.strip c.apply.new.strip _ _ c.apply.ensures.row c.apply.ensures.left c.apply.ensures.right c.promoted_ints.ensures.values
-    (first-hold (λ i u. IsSameAt i frame.memory u) (at b) c.promoted_ints.new.strip.row right size (c.promoted_ints-2.ensures.row ∙ c.none-right.ensures.row ∙ sym c.promoted_ints.ensures.row)
+    (first-hold (λ row k u. IsSameAt (behind k row) frame.memory u) (at b) c.promoted_ints.new.strip.row right size (c.promoted_ints-2.ensures.row ∙ c.none-right.ensures.row ∙ sym c.promoted_ints.ensures.row)
     (search rules) c.promoted_ints-2.ensures.values)
     c.apply.ensures.words
