@@ -1,7 +1,8 @@
 -- The words of the turns of a row's indices, as the variables of the loop have them.
 -- Each lemma has an int or the words of a turn, or what is put into slots in it, on its left side.
-use Rattle.std.proofs.Common.{◌≡◌, ◌<◌, ◌+◌, arith, ℕ, ℤ, pos, ◌+ℤ◌, ◌*ℤ◌, List, [], ◌∷◌, map, length, get_or, set, Option, IfSome, FitsSigned, w64, refl, sym, subst, ap, ◌∙◌}
+use Rattle.std.proofs.Common.{◌≡◌, ◌+◌, arith, ℕ, ℤ, pos, ◌+ℤ◌, ◌*ℤ◌, List, [], ◌∷◌, map, length, get_or, set, Option, IfSome, FitsSigned, w64, refl, sym, subst, ap, ◌∙◌}
 use Rattle.std.proofs.lemmas.Int.{ints, int_wrap_fits}
+use Rattle.std.proofs.lemmas.Option.{IfSome_then}
 use Rattle.std.proofs.Math.IntN.{*ℤ_comm, suc_ℤ-*ℤ}
 use Rattle.std.proofs.Math.Numerals.{add-one}
 use Rattle.dpl_domain.specs.Ranks.{last_of}
@@ -15,14 +16,21 @@ use Rattle.dpl_memory.specs.Memory.{PlainKind, Variable, Memory, int_leaf, with_
 use Rattle.dpl_nodes.specs.Steps.{unplaced_leaf, next_name}
 use Rattle.dpl_strips.specs.declared.pace.Pace.{Pace}
 use Rattle.dpl_strips.specs.declared.pace.Pace.TheVariants.{Steady, Stepping}
-use Rattle.dpl_strips.specs.Strips.{FitsTurns, GoesIn, each_put, paced}
+use Rattle.dpl_strips.specs.declared.apply.Wrapping.{Wrapping}
+use Rattle.dpl_strips.specs.Strips.{FitsTurns, GoesAs, GoesIn, each_put, made_by, paced}
 
 -- ---- ints that step
--- what steps so, and fits a word, is not changed by wrapping
-pub wrap-stepping : (step from : ℤ) (p : Pace) → FitsTurns step p → p ≡ Stepping from → (k : ℕ) → k < 64 → (z : ℤ) → z ≡ from +ℤ step *ℤ pos k → wrap z ≡ paced step p k
-wrap-stepping step from p fits goes k below z is =
-    let at : paced step p k ≡ z = ap (λ p. paced step p k) goes ∙ sym is in
-    ap wrap (sym at) ∙ int_wrap_fits w64 (paced step p k) (fits k below)
+-- what an operator makes of two ints, where that is an int that steps so and fits a word: wrapping doesn't change it
+pub goes-stepping : (op : Wrapping) (step from : ℤ) (a b : Pace) (r : Option Pace)
+    → ((k : ℕ) → made_by op (paced step a k) (paced step b k) ≡ wrap (from +ℤ step *ℤ pos k))
+    → IfSome r (λ p. FitsTurns step p × (p ≡ Stepping from)) → IfSome r (GoesAs op step a b)
+goes-stepping op step from a b r made goes =
+    IfSome_then r goes (λ (p : Pace) has. (
+      has.0,
+      λ k below.
+          let at : paced step p k ≡ from +ℤ step *ℤ pos k = ap (λ p. paced step p k) has.1 in
+          made k ∙ ap wrap (sym at) ∙ int_wrap_fits w64 (paced step p k) (has.0 k below),
+    ))
 
 -- one step more
 pub further : (from step : ℤ) (k : ℕ) → (from +ℤ step *ℤ pos k) +ℤ step ≡ from +ℤ step *ℤ pos (k + 1)

@@ -1,6 +1,6 @@
 -- Ints of several indices at once, and how far turns may change a memory before they are used.
 -- A strip is evaluated before those turns, and each of its ints is the value in the turn of its index all the same.
-use Rattle.std.specs.Prelude.{◌≡◌, ◌≢◌, ◌<◌, ℕ, ℤ, pos, ◌+ℤ◌, ◌-ℤ◌, ◌*ℤ◌, List, [], ◌∷◌, length, get_or, set, None, Result, Ok, FitsSigned}
+use Rattle.std.specs.Prelude.{◌≡◌, ◌≢◌, ◌<◌, ℕ, ℤ, pos, ◌+ℤ◌, ◌-ℤ◌, ◌*ℤ◌, List, [], ◌∷◌, length, get_or, set, None, Result, Ok, FitsSigned, Option, IfSome}
 use Rattle.std.specs.Int.{w64}
 use Rattle.dpl_array.specs.Elements.{Row, behind}
 use Rattle.dpl_language.specs.Tree.{Infix, Add, Subtract, Multiply}
@@ -46,7 +46,8 @@ HoldsAtIndices meaning s strip = HoldsWhere (λ row k u. IsSameAt (behind k row)
 -- a memory in the turn of an index: the variables of the loop hold the index, and else the word and the array of one slot alone may have
 -- changed
 pub record IsInTurn (names : Names) (target : ℕ) (t : Index) (s u : Memory) : Type 0 where
-  pub numbers : (slot : ℕ) → slot ≢ target → get_or u.words.numbers slot (pos 0) ≡ get_or (bound_to in_memory (names_view names) (Domain []) t s).words.numbers slot (pos 0)
+  pub numbers : (slot : ℕ) → slot ≢ target
+      → get_or u.words.numbers slot (pos 0) ≡ get_or (bound_to in_memory (names_view names) (Domain []) t s).words.numbers slot (pos 0)
   pub tuples : (slot : ℕ) → get_or u.tuples slot no_tuple ≡ get_or (bound_to in_memory (names_view names) (Domain []) t s).tuples slot no_tuple
   pub arrays : (slot : ℕ) → slot ≢ target → array_at slot u ≡ array_at slot s
 
@@ -96,6 +97,17 @@ FitsTurns step pace = (k : ℕ) → k < 64 → FitsSigned w64 (paced step pace k
 abbrev pub GoesIn : ℤ → (ℕ → List ℤ) → ℕ → Pace → Type 0
 GoesIn step numbers slot pace = FitsTurns step pace × ((k : ℕ) → k < 64 → get_or (numbers k) slot (pos 0) ≡ paced step pace k)
 
+-- what an operator makes of two ints goes so: it is an int of this pace in each turn of a strip, and they all fit a word
+abbrev pub GoesAs : Wrapping → ℤ → Pace → Pace → Pace → Type 0
+GoesAs operator step a b pace = FitsTurns step pace × ((k : ℕ) → k < 64 → made_by operator (paced step a k) (paced step b k) ≡ paced step pace k)
+
+-- once a variable has got the int that it holds in each turn, the word in a slot goes as the second pace says, where there is one: whatever
+-- the words were of which the first one told how it went before, as long as there are so many of them
+abbrev pub GoesAfter : ℤ → ℕ → ℕ → Pace → ℕ → Option Pace → Option Pace → Type 0
+GoesAfter step slot variable held count before pace =
+    (numbers : ℕ → List ℤ) → ((k : ℕ) → length (numbers k) ≡ count) → IfSome before (GoesIn step numbers slot)
+    → IfSome pace (GoesIn step (λ k. set (numbers k) variable (paced step held k)) slot)
+
 -- the coordinates of an index, one each in slots; a slot without one gets 0
 abbrev pub each_put : List ℕ → Index → List ℤ → List ℤ
 each_put [] t words = words
@@ -109,7 +121,8 @@ turn_numbers names row s k = (bound_to in_memory (names_view names) (Domain []) 
 -- an int goes so through the turns of a row's indices
 abbrev pub GoesAt : Limits → Names → ℕ → Row → Memory → IntExpr → Pace → Type 0
 GoesAt limits names target row s e pace =
-    (k : ℕ) → k < 64 → (u : Memory) → IsInTurn names target (behind k row) s u → value_of limits in_memory (int_view e) None u ≡ Ok (Int (paced row.step pace k))
+    (k : ℕ) → k < 64 → (u : Memory) → IsInTurn names target (behind k row) s u
+    → value_of limits in_memory (int_view e) None u ≡ Ok (Int (paced row.step pace k))
 
 -- the index that is found in a turn lies as far behind another as the turn behind the first
 abbrev pub GoesFrom : Limits → Names → ℕ → Row → Memory → IndexExpr → Row → Type 0

@@ -44,15 +44,26 @@ pub(crate) fn copy(strip: &mut Strip, words: &[i64])
     strip.size = size;
 }
 
+// What a function makes of each int of a strip. It is inlined with that function, so the loop calls nothing.
+#[inline(always)]
+fn each<F: Fn(i64) -> i64>(strip: &mut Strip, apply: F)
+    requires { F.IsAlwaysCallable apply }
+    ensures row { strip.new.row ≡ strip.old.row }
+    ensures size { strip.new.size ≡ strip.old.size }
+    ensures words { (k : ℕ) → k < 64 → F.post apply (get_or strip.old.words k (pos 0)) (get_or strip.new.words k (pos 0)) }
+{
+    for k in 0..STRIP {
+        strip.words[k] = apply(strip.words[k]);
+    }
+}
+
 /// The ints of a strip with the other sign.
 pub(crate) fn negate(strip: &mut Strip)
     ensures row { strip.new.row ≡ strip.old.row }
     ensures size { strip.new.size ≡ strip.old.size }
     ensures words { (k : ℕ) → k < 64 → get_or strip.new.words k (pos 0) ≡ wrap (neg_ℤ (get_or strip.old.words k (pos 0))) }
 {
-    for k in 0..STRIP {
-        strip.words[k] = negative(strip.words[k]);
-    }
+    each(strip, negative);
 }
 
 /// The ints of a strip, each divided by one int.
@@ -62,9 +73,11 @@ pub(crate) fn divide(strip: &mut Strip, by: i64)
     ensures size { strip.new.size ≡ strip.old.size }
     ensures words { (k : ℕ) → k < 64 → get_or strip.new.words k (pos 0) ≡ wrap (int_div (get_or strip.old.words k (pos 0)) by) }
 {
-    for k in 0..STRIP {
-        strip.words[k] = quotient(strip.words[k], by);
-    }
+    let quotients = move |n: i64| -> i64
+        requires { by ≢ pos 0 }
+        ensures { result ≡ wrap (int_div n by) }
+    { quotient(n, by) };
+    each(strip, quotients);
 }
 
 /// What each int of a strip leaves when it is divided by one int.
@@ -74,9 +87,11 @@ pub(crate) fn leave(strip: &mut Strip, by: i64)
     ensures size { strip.new.size ≡ strip.old.size }
     ensures words { (k : ℕ) → k < 64 → get_or strip.new.words k (pos 0) ≡ wrap (int_rem (get_or strip.old.words k (pos 0)) by) }
 {
-    for k in 0..STRIP {
-        strip.words[k] = remainder(strip.words[k], by);
-    }
+    let remainders = move |n: i64| -> i64
+        requires { by ≢ pos 0 }
+        ensures { result ≡ wrap (int_rem n by) }
+    { remainder(n, by) };
+    each(strip, remainders);
 }
 
 // What an operator makes of the ints of a strip, each with one int on its right.
@@ -87,12 +102,14 @@ fn with_int<F: Fn(i64, i64) -> i64>(strip: &mut Strip, right: i64, apply: F)
     ensures size { strip.new.size ≡ strip.old.size }
     ensures words { (k : ℕ) → k < 64 → F.post apply (get_or strip.old.words k (pos 0)) right (get_or strip.new.words k (pos 0)) }
 {
-    for k in 0..STRIP {
-        strip.words[k] = apply(strip.words[k], right);
-    }
+    let made = move |left: i64| -> i64
+        requires { F.IsAlwaysCallable apply }
+        ensures { F.post apply left right result }
+    { apply(left, right) };
+    each(strip, made);
 }
 
-// The same with the word at the same place on the right of each.
+// What an operator makes of the ints of a strip, each with the word at the same place on its right.
 #[inline(always)]
 fn with_words<F: Fn(i64, i64) -> i64>(strip: &mut Strip, right: &[i64], apply: F)
     requires { F.IsAlwaysCallable apply }

@@ -1,12 +1,10 @@
 // How an int goes from turn to turn of a loop: it stays, or it steps along with the last coordinate of the turns' indices.
 // So elements are found, and put, several turns at once.
 
-ghost use Rattle.std.specs.Prelude.{◌≡◌, ◌<◌, ℕ, ℤ, pos, ◌+ℤ◌, ◌-ℤ◌, List, ◌∷◌, length, get_or, set, Ok, IfSome};
+ghost use Rattle.std.specs.Prelude.{◌≡◌, ◌∷◌, length, IfSome};
 ghost use Rattle.dpl_array.specs.Elements.{behind};
-ghost use Rattle.dpl_language.specs.Arithmetic.{wrap};
-ghost use Rattle.dpl_language.specs.Values.{Int};
-ghost use Rattle.dpl_memory.specs.Memory.{Memory};
-ghost use Rattle.dpl_strips.specs.Strips.{IsInTurn, paced, FitsTurns, GoesIn, each_put, turn_numbers, GoesAt};
+ghost use Rattle.dpl_strips.specs.Strips.{FitsTurns, GoesAs, GoesIn, GoesAfter, each_put, turn_numbers, GoesAt};
+ghost use Rattle.dpl_strips.specs.declared.apply.Wrapping.TheVariants.{Sum as SumOf, Difference as DifferenceOf};
 ghost use Rattle.dpl_strips.specs.declared.pace.Pace.TheVariants.{Steady as SteadyPace, Stepping as SteppingPace};
 
 use crate::number::{difference, sum};
@@ -33,7 +31,7 @@ fn stepping(from: i64, row: Row) -> Option<Pace>
 impl Pace {
     // How the sum of two ints goes. Where both step there is no pace for it.
     fn plus(self, other: Pace, row: Row) -> Option<Pace>
-        ensures { IfSome result (λ p. FitsTurns row.step p × ((k : ℕ) → k < 64 → wrap (paced row.step self k +ℤ paced row.step other k) ≡ paced row.step p k)) }
+        ensures { IfSome result (GoesAs SumOf row.step self other) }
     {
         match (self, other) {
             (Pace::Steady(a), Pace::Steady(b)) => Some(Pace::Steady(sum(a, b))),
@@ -45,7 +43,7 @@ impl Pace {
 
     // How their difference goes. There is no pace where the second one steps.
     fn minus(self, other: Pace, row: Row) -> Option<Pace>
-        ensures { IfSome result (λ p. FitsTurns row.step p × ((k : ℕ) → k < 64 → wrap (paced row.step self k -ℤ paced row.step other k) ≡ paced row.step p k)) }
+        ensures { IfSome result (GoesAs DifferenceOf row.step self other) }
     {
         match (self, other) {
             (Pace::Steady(a), Pace::Steady(b)) => Some(Pace::Steady(difference(a, b))),
@@ -65,8 +63,7 @@ fn after<A: Arrays>(
     row: Row,
     frame: &Frame<A>,
 ) -> Option<Pace>
-    ensures { (numbers : ℕ → List ℤ) → ((k : ℕ) → length (numbers k) ≡ length frame.now.memory.words.numbers) → IfSome before (GoesIn row.step numbers slot)
-        → IfSome result (GoesIn row.step (λ k. set (numbers k) variable (paced row.step held k)) slot) }
+    ensures { GoesAfter row.step slot variable held (length frame.now.memory.words.numbers) before result }
 {
     if slot != variable {
         return before;
