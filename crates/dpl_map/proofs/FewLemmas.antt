@@ -1,17 +1,18 @@
 -- A part's domains are few where the ranges of each dimension are.
-use Rattle.std.proofs.Common.{◌≡◌, ◌≤◌, ◌<◌, ◌*◌, ℕ, zero, suc, List, [], ◌∷◌, ◌++◌, ℤ, pos, ◌≤ℤ◌, map, flat_map, length, All, Contains, Result, Ok, Err, IfOk, refl, ap, sym, subst, ◌∙◌, arith, ⊎_elim}
+use Rattle.std.proofs.Common.{◌≡◌, ◌≤◌, ◌<◌, ◌*◌, ℕ, zero, suc, List, [], ◌∷◌, ◌++◌, ℤ, pos, ◌≤ℤ◌, map, flat_map, length, All, Contains, Result, Ok, Err, IfOk, Bool, true, false, nat_eq, if◌then◌else◌, refl, ap, sym, subst, ◌∙◌, arith, ⊎_elim}
 use Rattle.std.proofs.Math.Nat.{mul_assoc}
 use Rattle.std.proofs.lemmas.Int.{ints}
 use Rattle.std.proofs.lemmas.List.Elements.{All-nil, All-cons, All-head, All-tail, Contains-append_left, Contains-append_right}
 use Rattle.dpl_sets.specs.Indices.{tuples}
 use Rattle.dpl_domain.specs.Ranks.{last_of}
 use Rattle.dpl_map.specs.Maps.{RuleValue, Block, Cyclic, BlockCyclic, AxisValue}
-use Rattle.dpl_map.specs.Axes.{IsSingle}
+use Rattle.dpl_map.specs.Axes.{IsSingle, cut_rule}
 use Rattle.dpl_map.specs.AxisFields.{IsAxis, IsRule}
 use Rattle.dpl_map.specs.MapFields.{IsMap}
 use Rattle.dpl_map.specs.Cuts.{behind}
 use Rattle.dpl_map.specs.Counts.{rule_block, rule_offsets, AreFewRanges, AreFew, first_of, rest_of}
 use Rattle.dpl_map.proofs.ValueLemmas.{IsWithinValues-more, IsWithinValues-length, IsWithinValues-none, IsWithinValues-one}
+use Rattle.dpl_map.proofs.OwnerLemmas.{nat_eq-false}
 use Rattle.dpl_map.proofs.ListLemmas.{Contains-cases, Contains-here, Contains-map, Contains-nothing, map-Contains}
 
 -- what holds of a result by one clause and by another
@@ -19,9 +20,23 @@ pub IfOk-both : {X E : Type 0} (r : Result X E) (P Q : X → Type 0) → IfOk r 
 IfOk-both (Ok x) P Q first second = (first, second)
 IfOk-both (Err e) P Q first second = tt
 
--- the blocks of an axis have some size
-sized : (axis : AxisValue) → IsAxis axis → pos 1 ≤ℤ rule_offsets axis.rule
-sized axis limits = go axis.rule limits.rule
+-- an axis is cut by its rule, but where it has one coordinate
+pub cut_rule-one : (axis : AxisValue) → axis.extent ≡ 1 → cut_rule axis ≡ Cyclic (pos 0)
+cut_rule-one axis one = rw one refl
+
+pub cut_rule-more : (axis : AxisValue) → (axis.extent ≡ 1 → ⊥) → cut_rule axis ≡ axis.rule
+cut_rule-more axis more = rw (nat_eq-false axis.extent 1 more) refl
+
+IsRule-cut : (axis : AxisValue) → IsAxis axis → IsRule (cut_rule axis)
+IsRule-cut axis limits = go (nat_eq axis.extent 1)
+  where
+    go : (one : Bool) → IsRule (if one then Cyclic (pos 0) else axis.rule)
+    go true = (omega (arith, ints), omega (arith, ints))
+    go false = limits.rule
+
+-- the blocks that an axis is cut by have some size
+sized : (axis : AxisValue) → IsAxis axis → pos 1 ≤ℤ rule_offsets (cut_rule axis)
+sized axis limits = go (cut_rule axis) (IsRule-cut axis limits)
   where
     go : (rule : RuleValue) → IsRule rule → pos 1 ≤ℤ rule_offsets rule
     go (Block low high) is = omega (arith, ints)
@@ -41,7 +56,7 @@ AreFew-none [] ts some = omega arith
 AreFew-none (axis ∷ axes) ts some = (
   0,
   0,
-  (let size = sized axis (All-head IsAxis axis axes some) in omega (arith, ints, size), IsWithinValues-none (rule_block axis.rule) (map first_of ts)),
+  (let size = sized axis (All-head IsAxis axis axes some) in omega (arith, ints, size), IsWithinValues-none (rule_block (cut_rule axis)) (map first_of ts)),
   AreFew-none axes (map rest_of ts) (All-tail IsAxis axis axes some),
   omega arith,
 )
@@ -52,7 +67,7 @@ AreFew-one [] ts t member some = omega arith
 AreFew-one (axis ∷ axes) ts t member some = (
   1,
   1,
-  (sized axis (All-head IsAxis axis axes some), IsWithinValues-one (rule_block axis.rule) (map first_of ts) (first_of t) (Contains-map first_of ts t member)),
+  (sized axis (All-head IsAxis axis axes some), IsWithinValues-one (rule_block (cut_rule axis)) (map first_of ts) (first_of t) (Contains-map first_of ts t member)),
   AreFew-one axes (map rest_of ts) (rest_of t) (Contains-map rest_of ts t member) (All-tail IsAxis axis axes some),
   omega arith,
 )
@@ -72,7 +87,7 @@ AreFew-more [] ts us n among few = few
 AreFew-more (axis ∷ axes) ts us n among few = (
   few.0,
   few.1,
-  (few.2.0, IsWithinValues-more (rule_block axis.rule) (map first_of ts) (map first_of us) few.0 (map-among first_of ts us among) few.2.1),
+  (few.2.0, IsWithinValues-more (rule_block (cut_rule axis)) (map first_of ts) (map first_of us) few.0 (map-among first_of ts us among) few.2.1),
   AreFew-more axes (map rest_of ts) (map rest_of us) few.1 (map-among rest_of ts us among) few.3,
   few.4,
 )
@@ -80,10 +95,10 @@ AreFew-more (axis ∷ axes) ts us n among few = (
 -- a list of each dimension is in few ranges, so many together
 abbrev pub FewEach : List AxisValue → List (List ℤ) → ℕ → Type 0
 FewEach [] [] n = n ≡ 1
-FewEach (axis ∷ axes) (is ∷ iss) n = (ranges : ℕ) × (rest : ℕ) × AreFewRanges axis.rule is ranges × FewEach axes iss rest × (n ≡ ranges * rest)
+FewEach (axis ∷ axes) (is ∷ iss) n = (ranges : ℕ) × (rest : ℕ) × AreFewRanges (cut_rule axis) is ranges × FewEach axes iss rest × (n ≡ ranges * rest)
 FewEach _ _ n = ⊥
 
-pub FewEach-last_of : (rank : ℕ) (o m i : AxisValue) (os ms is : List ℤ) (a b c : ℕ) → 1 ≤ rank → rank ≤ 3 → (rank < 3 → a ≡ 1) → (rank < 2 → b ≡ 1) → AreFewRanges o.rule os a → AreFewRanges m.rule ms b → AreFewRanges i.rule is c → FewEach (last_of rank o m i) (last_of rank os ms is) (a * b * c)
+pub FewEach-last_of : (rank : ℕ) (o m i : AxisValue) (os ms is : List ℤ) (a b c : ℕ) → 1 ≤ rank → rank ≤ 3 → (rank < 3 → a ≡ 1) → (rank < 2 → b ≡ 1) → AreFewRanges (cut_rule o) os a → AreFewRanges (cut_rule m) ms b → AreFewRanges (cut_rule i) is c → FewEach (last_of rank o m i) (last_of rank os ms is) (a * b * c)
 FewEach-last_of zero o m i os ms is a b c some most first second outer middle inner = absurd (omega (arith, some))
 FewEach-last_of (suc zero) o m i os ms is a b c some most first second outer middle inner =
     (c, 1, inner, refl, (let one : a ≡ 1 = first (omega arith) in let single : b ≡ 1 = second (omega arith) in rw (one, single) (omega arith)))
@@ -104,7 +119,7 @@ FewEach-nothing [] [] n none each = absurd cc
 FewEach-nothing [] (is ∷ iss) n none each = absurd each
 FewEach-nothing (axis ∷ axes) [] n none each = absurd each
 FewEach-nothing (axis ∷ axes) ([] ∷ iss) n none each =
-    let few = IsWithinValues-length (rule_block axis.rule) [] each.0 each.2.1 in
+    let few = IsWithinValues-length (rule_block (cut_rule axis)) [] each.0 each.2.1 in
     let zero_ranges : each.0 ≡ 0 = omega (arith, few) in
     each.4 ∙ ap (λ m. m * each.1) zero_ranges ∙ omega arith
 FewEach-nothing (axis ∷ axes) ((i ∷ is) ∷ iss) n none each =
@@ -142,7 +157,7 @@ AreFew-tuples (axis ∷ axes) ((i ∷ is) ∷ iss) n some each = go (tuples iss)
           each.1,
           (
             each.2.0,
-            IsWithinValues-more (rule_block axis.rule) (i ∷ is) (map first_of whole) each.0
+            IsWithinValues-more (rule_block (cut_rule axis)) (i ∷ is) (map first_of whole) each.0
                 (λ j first. Contains-map first_of whole (j ∷ t) (row-member (i ∷ is) (t ∷ rows) j t first (Contains-here t rows))) each.2.1,
           ),
           AreFew-more axes (t ∷ rows) (map rest_of whole) each.1

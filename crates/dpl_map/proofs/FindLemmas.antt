@@ -6,7 +6,7 @@ use Rattle.dpl_sets.specs.Ranges.{RangeValue}
 use Rattle.dpl_sets.specs.Indices.{indices}
 use Rattle.dpl_domain.specs.Ranks.{last_of, IsPadded}
 use Rattle.dpl_map.specs.Maps.{RuleValue, Block, Cyclic, BlockCyclic, AxisValue}
-use Rattle.dpl_map.specs.Axes.{IsSingle}
+use Rattle.dpl_map.specs.Axes.{IsSingle, cut_rule}
 use Rattle.dpl_map.specs.declared.find.Order.{Order}
 use Rattle.dpl_map.specs.declared.find.Order.TheVariants.{Blocks, Offsets}
 use Rattle.dpl_map.specs.Orders.{three, rule_key, keys, IsBefore, IsAt, AreRowByRow, ArePart, HasNone}
@@ -33,14 +33,14 @@ before-padded (suc (suc (suc zero))) f g h x y z u v w first second = ((λ befor
 before-padded (suc (suc (suc (suc n)))) f g h x y z u v w first second = absurd (omega (arith, first.to_three))
 
 -- the keys of two tuples of a map's rank, dimension by dimension
-pub before-keys : (axes : List AxisValue) (o m i : AxisValue) (a b c : Order) (s t : List ℤ) (x y z u v w : ℤ) → axes ≡ last_of (length axes) o m i → s ≡ last_of (length s) x y z → t ≡ last_of (length t) u v w → IsPadded (pos 0) (length s) x y → IsPadded (pos 0) (length t) u v → length s ≡ length axes → length t ≡ length axes → IsBefore three (rule_key a o.rule x ∷ rule_key b m.rule y ∷ rule_key c i.rule z ∷ []) (rule_key a o.rule u ∷ rule_key b m.rule v ∷ rule_key c i.rule w ∷ []) ↔ IsBefore (keys (last_of (length axes) a b c) axes) s t
+pub before-keys : (axes : List AxisValue) (o m i : AxisValue) (a b c : Order) (s t : List ℤ) (x y z u v w : ℤ) → axes ≡ last_of (length axes) o m i → s ≡ last_of (length s) x y z → t ≡ last_of (length t) u v w → IsPadded (pos 0) (length s) x y → IsPadded (pos 0) (length t) u v → length s ≡ length axes → length t ≡ length axes → IsBefore three (rule_key a (cut_rule o) x ∷ rule_key b (cut_rule m) y ∷ rule_key c (cut_rule i) z ∷ []) (rule_key a (cut_rule o) u ∷ rule_key b (cut_rule m) v ∷ rule_key c (cut_rule i) w ∷ []) ↔ IsBefore (keys (last_of (length axes) a b c) axes) s t
 before-keys axes o m i a b c s t x y z u v w axes-is s-is t-is s-padded t-padded s-rank t-rank =
     let n = length axes in
-    let fs = last_of n (rule_key a o.rule) (rule_key b m.rule) (rule_key c i.rule) in
+    let fs = last_of n (rule_key a (cut_rule o)) (rule_key b (cut_rule m)) (rule_key c (cut_rule i)) in
     let by : fs ≡ keys (last_of n a b c) axes = keys-last_of n a b c o m i ∙ ap (λ (d : List AxisValue). keys (last_of n a b c) d) (sym axes-is) in
     let first : s ≡ last_of n x y z = s-is ∙ ap (λ (r : ℕ). last_of r x y z) s-rank in
     let second : t ≡ last_of n u v w = t-is ∙ ap (λ (r : ℕ). last_of r u v w) t-rank in
-    let padded = before-padded n (rule_key a o.rule) (rule_key b m.rule) (rule_key c i.rule) x y z u v w (subst (λ (r : ℕ). IsPadded (pos 0) r x y) s-rank s-padded) (subst (λ (r : ℕ). IsPadded (pos 0) r u v) t-rank t-padded) in
+    let padded = before-padded n (rule_key a (cut_rule o)) (rule_key b (cut_rule m)) (rule_key c (cut_rule i)) x y z u v w (subst (λ (r : ℕ). IsPadded (pos 0) r x y) s-rank s-padded) (subst (λ (r : ℕ). IsPadded (pos 0) r u v) t-rank t-padded) in
     let same : IsBefore fs (last_of n x y z) (last_of n u v w) ≡ IsBefore (keys (last_of n a b c) axes) s t =
     ap (λ (ks : List (ℤ → ℤ)). IsBefore ks (last_of n x y z) (last_of n u v w)) by ∙ ap (λ (r : List ℤ). IsBefore (keys (last_of n a b c) axes) r (last_of n u v w)) (sym first) ∙ ap (λ (r : List ℤ). IsBefore (keys (last_of n a b c) axes) s r) (sym second) in
     ((λ before. subst (λ (X : Type 0). X) same (padded.1 before)), (λ before. padded.0 (subst (λ (X : Type 0). X) (sym same) before)))
@@ -58,15 +58,15 @@ each-order P blocks offsets Blocks = blocks
 each-order P blocks offsets Offsets = offsets
 
 -- domains that do not have a tuple do not have it by orders that are the same
-pub none-same : (axes : List AxisValue) (o m i : AxisValue) (a b c a' b' c' : Order) (domains : List (List RangeValue)) (t : List ℤ) → axes ≡ last_of (length axes) o m i → rule_key a o.rule ≡ rule_key a' o.rule → rule_key b m.rule ≡ rule_key b' m.rule → rule_key c i.rule ≡ rule_key c' i.rule → HasNone (last_of (length axes) a' b' c') axes domains t → HasNone (last_of (length axes) a b c) axes domains t
+pub none-same : (axes : List AxisValue) (o m i : AxisValue) (a b c a' b' c' : Order) (domains : List (List RangeValue)) (t : List ℤ) → axes ≡ last_of (length axes) o m i → rule_key a (cut_rule o) ≡ rule_key a' (cut_rule o) → rule_key b (cut_rule m) ≡ rule_key b' (cut_rule m) → rule_key c (cut_rule i) ≡ rule_key c' (cut_rule i) → HasNone (last_of (length axes) a' b' c') axes domains t → HasNone (last_of (length axes) a b c) axes domains t
 none-same axes o m i a b c a' b' c' domains t is first second third none =
     λ rows.
     let n = length axes in
     let by : keys (last_of n a b c) axes ≡ keys (last_of n a' b' c') axes =
     ap (keys (last_of n a b c)) is ∙ sym (keys-last_of n a b c o m i)
-    ∙ ap (λ f. last_of n f (rule_key b m.rule) (rule_key c i.rule)) first
-    ∙ ap (λ g. last_of n (rule_key a' o.rule) g (rule_key c i.rule)) second
-    ∙ ap (λ h. last_of n (rule_key a' o.rule) (rule_key b' m.rule) h) third
+    ∙ ap (λ f. last_of n f (rule_key b (cut_rule m)) (rule_key c (cut_rule i))) first
+    ∙ ap (λ g. last_of n (rule_key a' (cut_rule o)) g (rule_key c (cut_rule i))) second
+    ∙ ap (λ h. last_of n (rule_key a' (cut_rule o)) (rule_key b' (cut_rule m)) h) third
     ∙ keys-last_of n a' b' c' o m i ∙ ap (keys (last_of n a' b' c')) (sym is) in
     none (record { rank = rows.rank; some = rows.some; sorted = λ k l i j s u s-at u-at. subst (λ ks. (k < l) ↔ IsBefore ks s u) by (rows.sorted k l i j s u s-at u-at) })
 

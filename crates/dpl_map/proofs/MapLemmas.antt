@@ -12,15 +12,15 @@ use Rattle.dpl_map.specs.Counts.{rule_offsets, AreFewRanges}
 use Rattle.dpl_map.specs.Cuts.{AreCut}
 use Rattle.dpl_map.specs.MapFields.{IsMap, idle}
 use Rattle.dpl_map.specs.Maps.{RuleValue, Block, Cyclic, BlockCyclic, AxisValue, axis_coordinate}
-use Rattle.dpl_map.specs.Axes.{AreSingle, IsSingle, owned_of}
+use Rattle.dpl_map.specs.Axes.{AreSingle, IsSingle, cut_rule, owned_of}
 use Rattle.dpl_map.proofs.AxisLemmas.{axis-below}
 use Rattle.dpl_map.proofs.ListLemmas.{Contains-filter}
 
 -- the axis that stands where a map has none is such
-pub single-idle : (axis : AxisValue) → axis ≡ idle → IsSingle axis.rule
-single-idle axis is = subst (λ (a : AxisValue). IsSingle a.rule) (sym is) tt
+pub single-idle : (axis : AxisValue) → axis ≡ idle → IsSingle (cut_rule axis)
+single-idle axis is = subst (λ (a : AxisValue). IsSingle (cut_rule a)) (sym is) tt
 
-pub AreSingle-last_of : (rank : ℕ) (o m i : AxisValue) → IsMap rank o m i → 1 ≤ rank → AreSingle (last_of rank o m i) → IsSingle o.rule × IsSingle m.rule × IsSingle i.rule
+pub AreSingle-last_of : (rank : ℕ) (o m i : AxisValue) → IsMap rank o m i → 1 ≤ rank → AreSingle (last_of rank o m i) → IsSingle (cut_rule o) × IsSingle (cut_rule m) × IsSingle (cut_rule i)
 AreSingle-last_of zero o m i is some single = absurd (omega arith)
 AreSingle-last_of (suc zero) o m i is some single = (single-idle o (is.first (omega arith)), single-idle m (is.second (omega arith)), single.0)
 AreSingle-last_of (suc (suc zero)) o m i is some single = (single-idle o (is.first (omega arith)), single.0, single.1.0)
@@ -42,11 +42,11 @@ unused-owned axis c limits unused among =
     Contains-filter (λ i. axis_coordinate axis i == c) (members_of point) (pos 0) owned member
 
 -- which is one range
-pub one-unused : (axis : AxisValue) (c : ℕ) (r : RangeValue) (pieces : List RangeValue) → IsAxis axis → axis ≡ idle → r ≡ point → c < axis.extent → AreCut members_of (owned_of axis c r) pieces → AreFewRanges axis.rule (owned_of axis c r) (length pieces) → length pieces ≡ 1
+pub one-unused : (axis : AxisValue) (c : ℕ) (r : RangeValue) (pieces : List RangeValue) → IsAxis axis → axis ≡ idle → r ≡ point → c < axis.extent → AreCut members_of (owned_of axis c r) pieces → AreFewRanges (cut_rule axis) (owned_of axis c r) (length pieces) → length pieces ≡ 1
 one-unused axis c r pieces limits unused empty among cut few =
     let member = subst (λ (s : RangeValue). Contains (owned_of axis c s) (pos 0)) (sym empty) (unused-owned axis c limits unused among) in
     let some = AreCut-some members_of (owned_of axis c r) pieces (pos 0) member cut in
-    let one : rule_offsets axis.rule ≡ pos 1 = ap (λ (a : AxisValue). rule_offsets a.rule) unused in
+    let one : rule_offsets (cut_rule axis) ≡ pos 1 = ap (λ (a : AxisValue). rule_offsets (cut_rule a)) unused in
     omega (arith, ints, some, few.0, one)
 
 -- by such a rule there is one range at the most

@@ -6,6 +6,7 @@ use Rattle.dpl_range.proofs.Ends.{Contains-slice_get, slice_get-Contains}
 use Rattle.dpl_sets.specs.Indices.{tuples, indices}
 use Rattle.dpl_domain.specs.Ranks.{last_of}
 use Rattle.dpl_map.specs.Maps.{AxisValue}
+use Rattle.dpl_map.specs.Axes.{cut_rule}
 use Rattle.dpl_map.specs.Parts.{part}
 use Rattle.dpl_map.specs.Cuts.{AreCut, AreSorted}
 use Rattle.dpl_map.specs.declared.find.Order.{Order}
@@ -14,7 +15,7 @@ use Rattle.dpl_map.proofs.ListLemmas.{All-members, All-slice_get, Contains-filte
 use Rattle.dpl_map.proofs.PartLemmas.{each-at, each-length}
 
 -- the keys of three axes, of which a map has the last ones
-pub keys-last_of : (rank : ℕ) (a b c : Order) (o m i : AxisValue) → last_of rank (rule_key a o.rule) (rule_key b m.rule) (rule_key c i.rule) ≡ keys (last_of rank a b c) (last_of rank o m i)
+pub keys-last_of : (rank : ℕ) (a b c : Order) (o m i : AxisValue) → last_of rank (rule_key a (cut_rule o)) (rule_key b (cut_rule m)) (rule_key c (cut_rule i)) ≡ keys (last_of rank a b c) (last_of rank o m i)
 keys-last_of zero a b c o m i = refl
 keys-last_of (suc zero) a b c o m i = refl
 keys-last_of (suc (suc zero)) a b c o m i = refl

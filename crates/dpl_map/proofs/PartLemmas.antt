@@ -209,7 +209,7 @@ pub part-small : (ranges : List RangeValue) (axes : List AxisValue) (locale : �
 unfolding part
 part-small ranges axes locale = length-filter_le (λ t. owner axes t == locale) (indices ranges)
 
-filter-every : {X : Type 0} (xs : List X) → filter (λ x. true) xs ≡ xs
+pub filter-every : {X : Type 0} (xs : List X) → filter (λ x. true) xs ≡ xs
 filter-every [] = refl
 filter-every (x ∷ xs) = ap (λ ys. x ∷ ys) (filter-every xs)
 

@@ -1,5 +1,5 @@
 -- Worked rows of the definitions, each by computation.
-use Rattle.std.proofs.Common.{◌≡◌, ℤ, pos, negsuc, ◌-ℤ◌, List, [], ◌∷◌, Contains, refl, map, arith}
+use Rattle.std.proofs.Common.{◌≡◌, ℤ, pos, negsuc, ◌-ℤ◌, List, [], ◌∷◌, Contains, inl, inr, refl, map, arith}
 use Rattle.std.specs.Int.{int_div_euclid}
 use Rattle.std.proofs.lemmas.Int.{ints}
 use Rattle.std.proofs.lemmas.List.Elements.{All-nil, All-from_recursion}
@@ -7,7 +7,10 @@ use Rattle.dpl_sets.specs.Members.{members}
 use Rattle.dpl_sets.specs.Ranges.{RangeValue}
 use Rattle.dpl_sets.specs.Indices.{indices}
 use Rattle.dpl_map.specs.Maps.{AxisValue, owner, cyclic_map, block_cyclic_map, Block, BlockCyclic}
+use Rattle.dpl_map.specs.Axes.{block_cyclic_axis, cut_rule, AreSingle}
 use Rattle.dpl_map.specs.Counts.{AreFewRanges}
+use Rattle.dpl_map.specs.Orders.{rule_key, keys, IsBefore}
+use Rattle.dpl_map.specs.declared.find.Order.TheVariants.{Blocks, Offsets}
 use Rattle.dpl_map.specs.Parts.{part}
 use Rattle.dpl_map.specs.Places.{block_place, cyclic_place, block_cyclic_place}
 
@@ -98,6 +101,36 @@ block_parts = refl
 block_cyclic_parts : map (part (range (pos 1) (pos 8) (pos 1) ∷ []) (block_cyclic_map (pos 1 ∷ []) (pos 2 ∷ []) (2 ∷ []))) (0 ∷ 1 ∷ []) ≡ ((pos 1 ∷ []) ∷ (pos 2 ∷ []) ∷ (pos 5 ∷ []) ∷ (pos 6 ∷ []) ∷ []) ∷ ((pos 3 ∷ []) ∷ (pos 4 ∷ []) ∷ (pos 7 ∷ []) ∷ (pos 8 ∷ []) ∷ []) ∷ []
 unfolding part owner block_cyclic_place indices members range
 block_cyclic_parts = refl
+
+-- from 1 in blocks of 2 over two locales, keys by blocks and by offsets; over one locale a range is not cut, so that each key is 0
+keys_of_two : map (rule_key Blocks (cut_rule (block_cyclic_axis (pos 1) (pos 2) 2))) (pos 1 ∷ pos 4 ∷ pos 5 ∷ []) ≡ pos 0 ∷ pos 1 ∷ pos 2 ∷ []
+keys_of_two = refl
+
+offsets_of_two : map (rule_key Offsets (cut_rule (block_cyclic_axis (pos 1) (pos 2) 2))) (pos 1 ∷ pos 4 ∷ pos 5 ∷ []) ≡ pos 0 ∷ pos 1 ∷ pos 0 ∷ []
+offsets_of_two = refl
+
+keys_of_one : map (rule_key Blocks (cut_rule (block_cyclic_axis (pos 1) (pos 2) 1))) (pos 1 ∷ pos 4 ∷ pos 5 ∷ []) ≡ pos 0 ∷ pos 0 ∷ pos 0 ∷ []
+keys_of_one = refl
+
+offsets_of_one : map (rule_key Offsets (cut_rule (block_cyclic_axis (pos 1) (pos 2) 1))) (pos 1 ∷ pos 4 ∷ pos 5 ∷ []) ≡ pos 0 ∷ pos 0 ∷ pos 0 ∷ []
+offsets_of_one = refl
+
+one_locale_is_single : AreSingle (block_cyclic_map (pos 1 ∷ pos 1 ∷ []) (pos 2 ∷ pos 3 ∷ []) (1 ∷ 1 ∷ []))
+one_locale_is_single = (tt, (tt, tt))
+
+-- from (1, 1) in blocks of 1 and of 2 on a grid 1x2: only columns are cut
+columns : List AxisValue
+columns = block_cyclic_map (pos 1 ∷ pos 1 ∷ []) (pos 1 ∷ pos 2 ∷ []) (1 ∷ 2 ∷ [])
+
+-- the domain {1..2, 1..4}
+column_parts : map (part (range (pos 1) (pos 2) (pos 1) ∷ range (pos 1) (pos 4) (pos 1) ∷ []) columns) (0 ∷ 1 ∷ []) ≡ ((pos 1 ∷ pos 1 ∷ []) ∷ (pos 1 ∷ pos 2 ∷ []) ∷ (pos 2 ∷ pos 1 ∷ []) ∷ (pos 2 ∷ pos 2 ∷ []) ∷ []) ∷ ((pos 1 ∷ pos 3 ∷ []) ∷ (pos 1 ∷ pos 4 ∷ []) ∷ (pos 2 ∷ pos 3 ∷ []) ∷ (pos 2 ∷ pos 4 ∷ []) ∷ []) ∷ []
+unfolding part owner block_cyclic_place indices members range columns
+column_parts = refl
+
+-- so the domain that has (2, 1) stands before the one that has (1, 5)
+columns_alone : IsBefore (keys (Blocks ∷ Blocks ∷ []) columns) (pos 2 ∷ pos 1 ∷ []) (pos 1 ∷ pos 5 ∷ [])
+unfolding columns
+columns_alone = inr (refl, inl (omega (arith, ints)))
 
 -- the whole map
 whole_parts : map (part (range (pos 1) (pos 2) (pos 1) ∷ []) []) (0 ∷ 1 ∷ []) ≡ ((pos 1 ∷ []) ∷ (pos 2 ∷ []) ∷ []) ∷ [] ∷ []

@@ -1,5 +1,5 @@
 -- One dimension of a map by itself.
-use Rattle.std.specs.Prelude.{◌==◌, ℕ, List, [], ◌∷◌, ℤ, filter}
+use Rattle.std.specs.Prelude.{◌==◌, ℕ, List, [], ◌∷◌, ℤ, pos, filter, nat_eq, if◌then◌else◌}
 use Rattle.dpl_sets.specs.Ranges.{RangeValue, members_of}
 use Rattle.dpl_map.specs.Maps.{RuleValue, Block, Cyclic, BlockCyclic, AxisValue, axis_coordinate}
 
@@ -17,7 +17,12 @@ IsSingle (Block low high) = Unit {0}
 IsSingle (Cyclic start) = Unit {0}
 IsSingle (BlockCyclic start blocksize) = ⊥
 
--- a map all of whose rules are such
+-- By which rule a dimension is cut into ranges. Where it has one coordinate, that one has all: a range stays whole, as by the cyclic
+-- rule over one.
+abbrev pub cut_rule : AxisValue → RuleValue
+cut_rule axis = if nat_eq axis.extent 1 then Cyclic (pos 0) else axis.rule
+
+-- a map all of whose dimensions are cut by such rules
 abbrev pub AreSingle : List AxisValue → Type 0
 AreSingle [] = Unit {0}
-AreSingle (axis ∷ axes) = IsSingle axis.rule × AreSingle axes
+AreSingle (axis ∷ axes) = IsSingle (cut_rule axis) × AreSingle axes

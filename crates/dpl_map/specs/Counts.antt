@@ -2,6 +2,7 @@
 use Rattle.std.specs.Prelude.{◌≤◌, ◌*◌, ℕ, List, [], ◌∷◌, ℤ, pos, ◌≤ℤ◌, ◌-ℤ◌, map, length, All, Contains}
 use Rattle.std.specs.Int.{int_div_euclid}
 use Rattle.dpl_map.specs.Maps.{RuleValue, Block, Cyclic, BlockCyclic, AxisValue}
+use Rattle.dpl_map.specs.Axes.{cut_rule}
 
 -- A number is no more than a function has values on a list: whatever list has all those values is as long.
 abbrev pub IsWithinValues : {X Y : Type 0} → (X → Y) → List X → ℕ → Type 0
@@ -40,4 +41,4 @@ rest_of (i ∷ is) = is
 abbrev pub AreFew : List AxisValue → List (List ℤ) → ℕ → Type 0
 AreFew [] tuples n = n ≤ 1
 AreFew (axis ∷ axes) tuples n =
-    (ranges : ℕ) × (rest : ℕ) × AreFewRanges axis.rule (map first_of tuples) ranges × AreFew axes (map rest_of tuples) rest × (n ≤ ranges * rest)
+    (ranges : ℕ) × (rest : ℕ) × AreFewRanges (cut_rule axis) (map first_of tuples) ranges × AreFew axes (map rest_of tuples) rest × (n ≤ ranges * rest)

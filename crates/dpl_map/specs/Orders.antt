@@ -5,6 +5,7 @@ use Rattle.dpl_sets.specs.Ranges.{RangeValue, members_of}
 use Rattle.dpl_sets.specs.Indices.{tuples, indices}
 use Rattle.dpl_domain.specs.Ranks.{last_of}
 use Rattle.dpl_map.specs.Maps.{RuleValue, Block, Cyclic, BlockCyclic, AxisValue}
+use Rattle.dpl_map.specs.Axes.{cut_rule}
 use Rattle.dpl_map.specs.Counts.{rule_block}
 use Rattle.dpl_map.specs.Cuts.{AreSorted}
 use Rattle.dpl_map.specs.declared.find.Order.{Order}
@@ -40,7 +41,7 @@ three = (λ i. i) ∷ (λ i. i) ∷ (λ i. i) ∷ []
 
 -- the keys of each dimension
 abbrev pub keys : List Order → List AxisValue → List (ℤ → ℤ)
-keys (order ∷ orders) (axis ∷ axes) = rule_key order axis.rule ∷ keys orders axes
+keys (order ∷ orders) (axis ∷ axes) = rule_key order (cut_rule axis) ∷ keys orders axes
 keys _ _ = []
 
 -- the products of ranges of each dimension are cut out of the product of the dimensions row by row, in the orders of the ranges

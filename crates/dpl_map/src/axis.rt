@@ -1,16 +1,17 @@
 // One dimension of a map: by which rule its indices are dealt out over how many coordinates.
 
-ghost use Rattle.std.specs.Prelude.{◌≡◌, ◌≢◌, ◌↔◌, ◌+◌, ◌*◌, ◌^◌, ◌≤◌, ◌<◌, ◌≤ℤ◌, ◌-ℤ◌, IsTrue, ◌==◌, ◌&&◌, ℕ, ℤ, pos, neg_ℤ, int_le, filter, length, All, Some};
-ghost use Rattle.std.specs.Prelude.{IfOk, []};
+ghost use Rattle.std.specs.Prelude.{◌≡◌, ◌≢◌, ◌↔◌, ◌+◌, ◌*◌, ◌^◌, ◌≤◌, ◌<◌, ◌≤ℤ◌, ◌-ℤ◌, ◌==◌, ◌&&◌, ℕ, ℤ, pos, neg_ℤ, int_le};
+ghost use Rattle.std.specs.Prelude.{IsTrue, [], filter, length, All, Some, IfOk};
 ghost use Rattle.std.specs.Int.{int_div_euclid, int_rem_euclid};
 ghost use Rattle.dpl_sets.specs.Ranges.{members_of, IsBound};
 ghost use Rattle.dpl_range.specs.Invariant.{IsRange};
 ghost use Rattle.dpl_map.specs.AxisFields.{IsAxis};
 ghost use Rattle.dpl_map.specs.Grids.{IsGridSize};
 ghost use Rattle.dpl_map.specs.Orders.{AreListed, rule_key};
-ghost use Rattle.dpl_map.specs.Axes.{IsSingle, owned_of};
+ghost use Rattle.dpl_map.specs.Axes.{IsSingle, cut_rule, owned_of};
 ghost use Rattle.dpl_map.specs.Boxes.{IsSteady};
 ghost use Rattle.dpl_map.specs.Counts.{AreFewRanges};
+ghost use Rattle.dpl_map.specs.Cuts.{behind};
 ghost use Rattle.dpl_map.specs.Maps.{axis_coordinate, IsBoxed, Block, Cyclic, BlockCyclic};
 ghost use Rattle.dpl_map.specs.Places.{block_place, cyclic_place, block_cyclic_place};
 
@@ -163,7 +164,8 @@ impl Axis {
 
     /// The members of a range that a coordinate owns, as ranges that each have members, in the order of the range. That is one
     /// range, or by the block-cyclic rule no more than a block has offsets, and no more than there are blocks with members
-    /// of the coordinate; and it is none where the coordinate owns no member.
+    /// of the coordinate; and it is none where the coordinate owns no member. An axis of one coordinate gives it the whole range,
+    /// by each rule as one range.
     ///
     /// # Errors
     /// Out of memory.
@@ -174,16 +176,17 @@ impl Axis {
         coordinate: u32,
     ) -> Result<Vec<Range>, AllocError>
         requires { coordinate < self.now.extent }
-        ensures cut { IfOk result (λ v. AreListed self.now.rule (owned_of self.now coordinate range.now) v.items) }
+        ensures cut { IfOk result (λ v. AreListed (cut_rule self.now) (owned_of self.now coordinate range.now) v.items) }
         ensures some { IfOk result (λ v. All (λ r. members_of r ≢ []) v.items) }
-        ensures few { IfOk result (λ v. AreFewRanges self.now.rule (owned_of self.now coordinate range.now) (length v.items)) }
+        ensures few { IfOk result (λ v. AreFewRanges (cut_rule self.now) (owned_of self.now coordinate range.now) (length v.items)) }
     {
+        if self.extent == 1 {
+            return sole(alloc, *range);
+        }
         if let Rule::BlockCyclic { start, size } = self.rule {
             return dealt(alloc, range, start, size, self.extent, coordinate);
         }
-        let mut parts = Vec::new(alloc);
-        keep(&mut parts, self.part(range, coordinate))?;
-        Ok(parts)
+        sole(alloc, self.part(range, coordinate))
     }
 
     // The members of a range that a coordinate owns by a rule that gives it one range.
@@ -278,15 +281,21 @@ impl Axis {
 
     /// Whether each coordinate has its indices of a range in one range.
     pub fn is_single(&self) -> bool
-        ensures { IsTrue result ↔ IsSingle self.now.rule }
+        ensures { IsTrue result ↔ IsSingle (cut_rule self.now) }
     {
+        if self.extent == 1 {
+            return true;
+        }
         !matches!(self.rule, Rule::BlockCyclic { .. })
     }
 
     /// The number by which the range of an index stands in the list of ranges that a coordinate has.
     pub fn key(&self, order: Order, i: i64) -> i128
-        ensures { result ≡ rule_key order self.now.rule i }
+        ensures { result ≡ rule_key order (cut_rule self.now) i }
     {
+        if self.extent == 1 {
+            return 0;
+        }
         let Rule::BlockCyclic { start, size } = self.rule else {
             return 0;
         };
@@ -295,6 +304,15 @@ impl Axis {
             Order::Offsets => offset_of(start, size, i),
         }
     }
+}
+
+// One range as a list, if it has members.
+fn sole(alloc: Global, range: Range) -> Result<Vec<Range>, AllocError>
+    ensures { IfOk result (λ v. v.items ≡ behind (members_of range) range []) }
+{
+    let mut parts = Vec::new(alloc);
+    keep(&mut parts, range)?;
+    Ok(parts)
 }
 
 // The coordinate of an index by the block rule. A box may hold 2^61 + 1 indices, so that the product needs more

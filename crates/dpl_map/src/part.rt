@@ -28,8 +28,9 @@ impl From<AllocError> for NoMemory {
 impl Map {
     /// The part of a domain that a locale owns: domains that each have an index, have none in common and together hold
     /// exactly the indices that it owns, each in the domain's order. It is one domain at the most, but by the block-cyclic
-    /// rule. There the number of domains is at most a product over the dimensions: of the offsets in a block, or of the
-    /// locale's blocks with an index of the part where these are fewer. A domain of another rank than the map's is not cut.
+    /// rule. There the number of domains is at most a product over the dimensions: of 1 where the dimension has one
+    /// coordinate, else of the offsets in a block, or of the locale's blocks with an index of the part where these are fewer.
+    /// A domain of another rank than the map's is not cut.
     /// There is no domain where the locale owns no index, as where it is none of the map's.
     ///
     /// The domains stand row by row, by rising blocks or by rising offsets of each dimension; `find` searches them so.

@@ -4,6 +4,7 @@ use Rattle.std.proofs.lemmas.Option.{none-some, slice_get_within}
 use Rattle.dpl_domain.specs.Ranks.{last_of}
 use Rattle.dpl_map.specs.declared.find.Order.{Order}
 use Rattle.dpl_map.specs.declared.find.Order.TheVariants.{Blocks}
+use Rattle.dpl_map.specs.Axes.{cut_rule}
 use Rattle.dpl_map.specs.Orders.{IsAt, HasNone}
 use Rattle.dpl_map.proofs.ListLemmas.{All-slice_get}
 use Rattle.dpl_map.proofs.OrderLemmas.{length-index}
@@ -44,7 +45,7 @@ returns-then-is_single c =
           (none-only c.args.self.now c.args.domains.now c.args.index (omega (arith, rank, c.rank.ensures.limits.0)) (omega (arith, rank, c.rank.ensures.limits.1))
           (λ outer middle inner.
           none-same c.args.self.now c.axes.result.0 c.axes.result.1 c.axes.result.2 outer middle inner Blocks middle inner c.args.domains.now c.args.index
-          c.axes.ensures.axes (single-key outer c.axes.result.0.rule (c.is_single.ensures.0 c.if-is_single.true)) refl refl (c.in_default.ensures.none refl middle inner))
+          c.axes.ensures.axes (single-key outer (cut_rule c.axes.result.0) (c.is_single.ensures.0 c.if-is_single.true)) refl refl (c.in_default.ensures.none refl middle inner))
           rows.0 rows.1 rows.2 k j at)),
     )
 

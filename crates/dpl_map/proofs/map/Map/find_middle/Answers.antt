@@ -2,6 +2,7 @@
 use Rattle.std.proofs.Common.{length, refl}
 use Rattle.dpl_domain.specs.Ranks.{last_of}
 use Rattle.dpl_map.specs.declared.find.Order.TheVariants.{Blocks}
+use Rattle.dpl_map.specs.Axes.{cut_rule}
 use Rattle.dpl_map.specs.Orders.{HasNone}
 use Rattle.dpl_map.proofs.FindLemmas.{single-key, each-order, none-same}
 use Rattle.dpl_map.proofs.map.Map.find_middle.Goals as goal
@@ -10,7 +11,7 @@ pub returns-then-is_single-clause-none : goal.returns-then-is_single-clause-none
 returns-then-is_single-clause-none c =
     λ _ inner.
     none-same c.args.self.now c.axes.result.0 c.axes.result.1 c.axes.result.2 c.args.outer c.args.middle inner c.args.outer c.args.middle Blocks c.args.domains.now c.args.index
-    c.axes.ensures.axes refl refl (single-key inner c.axes.result.2.rule (c.is_single.ensures.0 c.if-is_single.true)) (c.in_default.ensures.none refl)
+    c.axes.ensures.axes refl refl (single-key inner (cut_rule c.axes.result.2) (c.is_single.ensures.0 c.if-is_single.true)) (c.in_default.ensures.none refl)
 
 pub returns-clause-none : goal.returns-clause-none
 returns-clause-none c =

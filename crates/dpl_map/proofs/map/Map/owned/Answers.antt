@@ -10,7 +10,7 @@ use Rattle.dpl_map.specs.Orders.{rule_key, keys, IsBefore, AreListed, AreProduct
 use Rattle.dpl_map.proofs.OrderLemmas.{keys-last_of, same-length, rows}
 use Rattle.dpl_map.specs.MapFields.{IsMap}
 use Rattle.dpl_map.specs.Maps.{AxisValue, locales}
-use Rattle.dpl_map.specs.Axes.{AreSingle, owned_of}
+use Rattle.dpl_map.specs.Axes.{AreSingle, cut_rule, owned_of}
 use Rattle.dpl_map.specs.Parts.{part}
 use Rattle.dpl_map.proofs.OwnerLemmas.{locales-padded}
 use Rattle.dpl_map.proofs.PartLemmas.{IsSeat, seat, tuples-part, part-small}
@@ -44,26 +44,26 @@ abbrev column : After-deref-3 → ℕ
 column c = c.args.locale % c.axes-outer.result.2.extent
 
 -- the three dimensions are cut out of what the locale owns of them
-outer-listed : (c : After-deref-3) → AreListed c.axes-outer.result.0.rule (owned_of c.axes-outer.result.0 (plane c) c.ranges-first.result.0) c.deref.result.now
+outer-listed : (c : After-deref-3) → AreListed (cut_rule c.axes-outer.result.0) (owned_of c.axes-outer.result.0 (plane c) c.ranges-first.result.0) c.deref.result.now
 outer-listed c =
     let cut = rw (c.extent.ensures.extent, c.extent-2.ensures.extent) at c.in_ok-outers.ensures.cut in
-    subst (λ (ranges : List RangeValue). AreListed c.axes-outer.result.0.rule (owned_of c.axes-outer.result.0 (plane c) c.ranges-first.result.0) ranges) (sym c.deref.ensures.value) cut
+    subst (λ (ranges : List RangeValue). AreListed (cut_rule c.axes-outer.result.0) (owned_of c.axes-outer.result.0 (plane c) c.ranges-first.result.0) ranges) (sym c.deref.ensures.value) cut
 
 outer-cut : (c : After-deref-3) → AreCut members_of (owned_of c.axes-outer.result.0 (plane c) c.ranges-first.result.0) c.deref.result.now
 outer-cut c = (outer-listed c).1.cut
 
-middle-listed : (c : After-deref-3) → AreListed c.axes-outer.result.1.rule (owned_of c.axes-outer.result.1 (row c) c.ranges-first.result.1) c.deref-2.result.now
+middle-listed : (c : After-deref-3) → AreListed (cut_rule c.axes-outer.result.1) (owned_of c.axes-outer.result.1 (row c) c.ranges-first.result.1) c.deref-2.result.now
 middle-listed c =
     let cut = rw (c.extent.ensures.extent, c.extent-3.ensures.extent) at c.in_ok-middles.ensures.cut in
-    subst (λ (ranges : List RangeValue). AreListed c.axes-outer.result.1.rule (owned_of c.axes-outer.result.1 (row c) c.ranges-first.result.1) ranges) (sym c.deref-2.ensures.value) cut
+    subst (λ (ranges : List RangeValue). AreListed (cut_rule c.axes-outer.result.1) (owned_of c.axes-outer.result.1 (row c) c.ranges-first.result.1) ranges) (sym c.deref-2.ensures.value) cut
 
 middle-cut : (c : After-deref-3) → AreCut members_of (owned_of c.axes-outer.result.1 (row c) c.ranges-first.result.1) c.deref-2.result.now
 middle-cut c = (middle-listed c).1.cut
 
-inner-listed : (c : After-deref-3) → AreListed c.axes-outer.result.2.rule (owned_of c.axes-outer.result.2 (column c) c.ranges-first.result.2) c.deref-3.result.now
+inner-listed : (c : After-deref-3) → AreListed (cut_rule c.axes-outer.result.2) (owned_of c.axes-outer.result.2 (column c) c.ranges-first.result.2) c.deref-3.result.now
 inner-listed c =
     let cut = rw c.extent-4.ensures.extent at c.in_ok-inners.ensures.cut in
-    subst (λ (ranges : List RangeValue). AreListed c.axes-outer.result.2.rule (owned_of c.axes-outer.result.2 (column c) c.ranges-first.result.2) ranges) (sym c.deref-3.ensures.value) cut
+    subst (λ (ranges : List RangeValue). AreListed (cut_rule c.axes-outer.result.2) (owned_of c.axes-outer.result.2 (column c) c.ranges-first.result.2) ranges) (sym c.deref-3.ensures.value) cut
 
 inner-cut : (c : After-deref-3) → AreCut members_of (owned_of c.axes-outer.result.2 (column c) c.ranges-first.result.2) c.deref-3.result.now
 inner-cut c = (inner-listed c).1.cut
@@ -86,20 +86,20 @@ tuples-owned c =
     ∙ sym (ap (λ (axes : List AxisValue). part c.args.domain.now axes c.args.locale) c.axes-outer.ensures.axes)
 
 -- and each is in few ranges
-outer-few : (c : After-deref-3) → AreFewRanges c.axes-outer.result.0.rule (owned_of c.axes-outer.result.0 (plane c) c.ranges-first.result.0) (length c.deref.result.now)
+outer-few : (c : After-deref-3) → AreFewRanges (cut_rule c.axes-outer.result.0) (owned_of c.axes-outer.result.0 (plane c) c.ranges-first.result.0) (length c.deref.result.now)
 outer-few c =
     let few = rw (c.extent.ensures.extent, c.extent-2.ensures.extent) at c.in_ok-outers.ensures.few in
-    subst (λ (ranges : List RangeValue). AreFewRanges c.axes-outer.result.0.rule (owned_of c.axes-outer.result.0 (plane c) c.ranges-first.result.0) (length ranges)) (sym c.deref.ensures.value) few
+    subst (λ (ranges : List RangeValue). AreFewRanges (cut_rule c.axes-outer.result.0) (owned_of c.axes-outer.result.0 (plane c) c.ranges-first.result.0) (length ranges)) (sym c.deref.ensures.value) few
 
-middle-few : (c : After-deref-3) → AreFewRanges c.axes-outer.result.1.rule (owned_of c.axes-outer.result.1 (row c) c.ranges-first.result.1) (length c.deref-2.result.now)
+middle-few : (c : After-deref-3) → AreFewRanges (cut_rule c.axes-outer.result.1) (owned_of c.axes-outer.result.1 (row c) c.ranges-first.result.1) (length c.deref-2.result.now)
 middle-few c =
     let few = rw (c.extent.ensures.extent, c.extent-3.ensures.extent) at c.in_ok-middles.ensures.few in
-    subst (λ (ranges : List RangeValue). AreFewRanges c.axes-outer.result.1.rule (owned_of c.axes-outer.result.1 (row c) c.ranges-first.result.1) (length ranges)) (sym c.deref-2.ensures.value) few
+    subst (λ (ranges : List RangeValue). AreFewRanges (cut_rule c.axes-outer.result.1) (owned_of c.axes-outer.result.1 (row c) c.ranges-first.result.1) (length ranges)) (sym c.deref-2.ensures.value) few
 
-inner-few : (c : After-deref-3) → AreFewRanges c.axes-outer.result.2.rule (owned_of c.axes-outer.result.2 (column c) c.ranges-first.result.2) (length c.deref-3.result.now)
+inner-few : (c : After-deref-3) → AreFewRanges (cut_rule c.axes-outer.result.2) (owned_of c.axes-outer.result.2 (column c) c.ranges-first.result.2) (length c.deref-3.result.now)
 inner-few c =
     let few = rw c.extent-4.ensures.extent at c.in_ok-inners.ensures.few in
-    subst (λ (ranges : List RangeValue). AreFewRanges c.axes-outer.result.2.rule (owned_of c.axes-outer.result.2 (column c) c.ranges-first.result.2) (length ranges)) (sym c.deref-3.ensures.value) few
+    subst (λ (ranges : List RangeValue). AreFewRanges (cut_rule c.axes-outer.result.2) (owned_of c.axes-outer.result.2 (column c) c.ranges-first.result.2) (length ranges)) (sym c.deref-3.ensures.value) few
 
 seat-of : (c : After-deref-3) → IsSeat c.args.locale c.axes-outer.result.0.extent c.axes-outer.result.1.extent c.axes-outer.result.2.extent (plane c) (row c) (column c)
 seat-of c =
@@ -161,8 +161,8 @@ cut-rows c =
     let third = inner-listed d in
     let orders = last_of n first.0 second.0 third.0 in
     let rank : c.rank.result ≡ n = c.rank.ensures.rank ∙ c.requires.rank in
-    let by : last_of c.rank.result (rule_key first.0 o.rule) (rule_key second.0 m.rule) (rule_key third.0 i.rule) ≡ keys orders c.args.self.now =
-    ap (λ (r : ℕ). last_of r (rule_key first.0 o.rule) (rule_key second.0 m.rule) (rule_key third.0 i.rule)) rank
+    let by : last_of c.rank.result (rule_key first.0 (cut_rule o)) (rule_key second.0 (cut_rule m)) (rule_key third.0 (cut_rule i)) ≡ keys orders c.args.self.now =
+    ap (λ (r : ℕ). last_of r (rule_key first.0 (cut_rule o)) (rule_key second.0 (cut_rule m)) (rule_key third.0 (cut_rule i))) rank
     ∙ keys-last_of n first.0 second.0 third.0 o m i
     ∙ ap (λ (axes : List AxisValue). keys orders axes) (sym c.axes-outer.ensures.axes) in
     let long : length orders ≡ length c.args.self.now = same-length n first.0 second.0 third.0 o m i ∙ ap length (sym c.axes-outer.ensures.axes) in
@@ -170,9 +170,9 @@ cut-rows c =
     (λ v. (orders : List Order) × (length orders ≡ length c.args.self.now) × AreSorted indices (IsBefore (keys orders c.args.self.now)) (part c.args.domain.now c.args.self.now c.args.locale) v.items)
     (λ v are.
     let made =
-    are (rule_key first.0 o.rule) (rule_key second.0 m.rule) (rule_key third.0 i.rule)
+    are (rule_key first.0 (cut_rule o)) (rule_key second.0 (cut_rule m)) (rule_key third.0 (cut_rule i))
     (owned_of o (plane d) c.ranges-first.result.0) (owned_of m (row d) c.ranges-first.result.1) (owned_of i (column d) c.ranges-first.result.2) first.1 second.1 third.1 in
-    let of_part = subst (λ (ts : List (List ℤ)). AreSorted indices (IsBefore (last_of c.rank.result (rule_key first.0 o.rule) (rule_key second.0 m.rule) (rule_key third.0 i.rule))) ts v.items) (tuples-owned d) made in
+    let of_part = subst (λ (ts : List (List ℤ)). AreSorted indices (IsBefore (last_of c.rank.result (rule_key first.0 (cut_rule o)) (rule_key second.0 (cut_rule m)) (rule_key third.0 (cut_rule i)))) ts v.items) (tuples-owned d) made in
     (orders, long, subst (λ (ks : List (ℤ → ℤ)). AreSorted indices (IsBefore ks) (part c.args.domain.now c.args.self.now c.args.locale) v.items) by of_part))
     c.products.ensures.cut
 
@@ -199,9 +199,9 @@ returns-clause-one c =
     let rules =
     AreSingle-last_of (length c.args.self.now) c.axes-outer.result.0 c.axes-outer.result.1 c.axes-outer.result.2 c.axes-outer.ensures.limits some
     (subst AreSingle c.axes-outer.ensures.axes single) in
-    let first = one-single c.axes-outer.result.0.rule (owned_of c.axes-outer.result.0 (plane d) c.ranges-first.result.0) (length c.deref.result.now) rules.0 (outer-few d) in
-    let second = one-single c.axes-outer.result.1.rule (owned_of c.axes-outer.result.1 (row d) c.ranges-first.result.1) (length c.deref-2.result.now) rules.1 (middle-few d) in
-    let third = one-single c.axes-outer.result.2.rule (owned_of c.axes-outer.result.2 (column d) c.ranges-first.result.2) (length c.deref-3.result.now) rules.2 (inner-few d) in
+    let first = one-single (cut_rule c.axes-outer.result.0) (owned_of c.axes-outer.result.0 (plane d) c.ranges-first.result.0) (length c.deref.result.now) rules.0 (outer-few d) in
+    let second = one-single (cut_rule c.axes-outer.result.1) (owned_of c.axes-outer.result.1 (row d) c.ranges-first.result.1) (length c.deref-2.result.now) rules.1 (middle-few d) in
+    let third = one-single (cut_rule c.axes-outer.result.2) (owned_of c.axes-outer.result.2 (column d) c.ranges-first.result.2) (length c.deref-3.result.now) rules.2 (inner-few d) in
     let one = one-product (length c.deref.result.now) (length c.deref-2.result.now) (length c.deref-3.result.now) first second third in
     IfOk-weaker c.products.result (λ v. length v.items ≡ length c.deref.result.now * length c.deref-2.result.now * length c.deref-3.result.now) (λ v. length v.items ≤ 1)
     (λ v count. omega (arith, count, one)) c.products.ensures.count
