@@ -49,11 +49,7 @@ fn direct_element<A: Arrays>(slot: usize, t: &IndexExpr<'_>, frame: &Frame<A>) -
 // Two operands.
 #[cycle(direct)]
 #[inline(always)]
-fn direct_two<A: Arrays>(
-    a: &IntExpr<'_>,
-    b: &IntExpr<'_>,
-    frame: &Frame<A>,
-) -> Option<(i64, i64)>
+fn direct_two<A: Arrays>(a: &IntExpr<'_>, b: &IntExpr<'_>, frame: &Frame<A>) -> Option<(i64, i64)>
     ensures left { IfSome result (λ p. int_in frame.now a.now ≡ Ok (Int p.0)) }
     ensures right { IfSome result (λ p. int_in frame.now b.now ≡ Ok (Int p.1)) }
 {
