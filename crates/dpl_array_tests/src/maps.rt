@@ -192,19 +192,34 @@ fn few_domains(rt: HostRuntime) {
     }
 }
 
-// In blocks of 17, of which each dimension has 18, a part has 17 times 17 times 17 domains: one for each three offsets.
+// One coordinate has all of a dimension, which blocks do not cut.
+#[test]
+fn one_coordinate(rt: HostRuntime) {
+    let alloc = rt.alloc();
+    let alone = in_blocks(&rt, &[1], &[3], &[1]);
+    counts(&rt, alloc, alone, "1..24", "1 0");
+    counts(&rt, alloc, alone, "1..1099511627776 by -1000", "1 0");
+    counts(&rt, alloc, alone, "2..1", "0 0");
+    owned(&rt, alloc, alone, domain(&rt, "-2..9 by -2"), "000000");
+    let columns = in_blocks(&rt, &[1, 1], &[1, 2], &[1, 2]);
+    counts(&rt, alloc, columns, "1..6,1..8", "2 2 0");
+    owned(&rt, alloc, columns, domain(&rt, "1..2,1..5"), "0011000110");
+}
+
+// In blocks of 17, of which each dimension has 36 and a locale 18, a part has 17 times 17 times 17 domains: one for each three
+// offsets.
 #[test]
 fn many_domains(rt: HostRuntime) {
-    let map = in_blocks(&rt, &[1, 1, 1], &[17, 17, 17], &[1, 1, 1]);
-    let cube = domain(&rt, "1..306,1..306,1..306");
+    let map = in_blocks(&rt, &[1, 1, 1], &[17, 17, 17], &[2, 2, 2]);
+    let cube = domain(&rt, "1..612,1..612,1..612");
     let part = map.part(rt.alloc(), &cube, 0).expect(&rt, "memory");
     assert_eq!(rt; part.len(), 4913);
     assert_eq!(rt; map.find(&part, index(&rt, &[1, 1, 1])), Some((0, 0)));
     assert_eq!(rt; map.find(&part, index(&rt, &[1, 1, 2])), Some((1, 0)));
     assert_eq!(rt; map.find(&part, index(&rt, &[2, 1, 1])), Some((289, 0)));
-    assert_eq!(rt; map.find(&part, index(&rt, &[1, 1, 18])), Some((0, 1)));
+    assert_eq!(rt; map.find(&part, index(&rt, &[1, 1, 35])), Some((0, 1)));
     assert_eq!(rt;
-        map.find(&part, index(&rt, &[306, 306, 306])),
+        map.find(&part, index(&rt, &[595, 595, 595])),
         Some((4912, 5831))
     );
 }
