@@ -11,16 +11,16 @@ use dpl_frame::{Arrays, Frame};
 use dpl_nodes::{BoolExpr, IndexExpr, IntExpr};
 use dpl_strips::number::{difference, negative, product, quotient, remainder, sum};
 
-// An operand: a leaf at once.
+/// The value of an int, where it is found directly: a leaf at once, and all else by a walk.
 #[cycle(direct)]
 #[inline(always)]
-fn direct_operand<A: Arrays>(e: &IntExpr<'_>, frame: &Frame<A>) -> Option<i64>
+pub fn direct_int<A: Arrays>(e: &IntExpr<'_>, frame: &Frame<A>) -> Option<i64>
     ensures { IfSome result (λ n. int_in frame.now e.now ≡ Ok (Int n)) }
 {
     match e {
         IntExpr::Local(slot) => Some(frame.number(*slot)),
         IntExpr::Number(n) => Some(*n),
-        _ => direct_int(e, frame),
+        _ => walked_int(e, frame),
     }
 }
 
@@ -30,16 +30,16 @@ fn direct_element<A: Arrays>(slot: usize, t: &IndexExpr<'_>, frame: &Frame<A>) -
     ensures { (at : Place) → IfSome result (λ n. element_in frame.now slot t.now at ≡ Ok n) }
 {
     match t {
-        IndexExpr::Line(i) => frame.element_line(slot, direct_operand(i, frame)?),
+        IndexExpr::Line(i) => frame.element_line(slot, direct_int(i, frame)?),
         IndexExpr::Plane(i, j) => {
-            let i = direct_operand(i, frame)?;
-            let j = direct_operand(j, frame)?;
+            let i = direct_int(i, frame)?;
+            let j = direct_int(j, frame)?;
             frame.element_plane(slot, i, j)
         }
         IndexExpr::Space(i, j, k) => {
-            let i = direct_operand(i, frame)?;
-            let j = direct_operand(j, frame)?;
-            let k = direct_operand(k, frame)?;
+            let i = direct_int(i, frame)?;
+            let j = direct_int(j, frame)?;
+            let k = direct_int(k, frame)?;
             frame.element_space(slot, i, j, k)
         }
         IndexExpr::Tuple(tuple) => frame.element(slot, frame.tuple(*tuple)),
@@ -53,20 +53,20 @@ fn direct_two<A: Arrays>(a: &IntExpr<'_>, b: &IntExpr<'_>, frame: &Frame<A>) -> 
     ensures left { IfSome result (λ p. int_in frame.now a.now ≡ Ok (Int p.0)) }
     ensures right { IfSome result (λ p. int_in frame.now b.now ≡ Ok (Int p.1)) }
 {
-    let left = direct_operand(a, frame)?;
-    let right = direct_operand(b, frame)?;
+    let left = direct_int(a, frame)?;
+    let right = direct_int(b, frame)?;
     Some((left, right))
 }
 
-/// The value of an int, where it is found directly.
+// The value of an int that is more than a leaf.
 #[cycle(direct)]
-pub fn direct_int<A: Arrays>(e: &IntExpr<'_>, frame: &Frame<A>) -> Option<i64>
+fn walked_int<A: Arrays>(e: &IntExpr<'_>, frame: &Frame<A>) -> Option<i64>
     ensures { IfSome result (λ n. int_in frame.now e.now ≡ Ok (Int n)) }
 {
     match e {
         IntExpr::Number(n) => Some(*n),
         IntExpr::Local(slot) => Some(frame.number(*slot)),
-        IntExpr::Negative(e) => Some(negative(direct_operand(e, frame)?)),
+        IntExpr::Negative(e) => Some(negative(direct_int(e, frame)?)),
         IntExpr::Sum(a, b) => {
             let (left, right) = direct_two(a, b, frame)?;
             Some(sum(left, right))
