@@ -7,7 +7,7 @@ ghost use Rattle.dpl_language.specs.Outcome.{Deeds, repeated};
 ghost use Rattle.dpl_language.specs.Statements.{exec, exec_all, exec_else, holds};
 ghost use Rattle.dpl_memory.specs.Memory.{in_memory};
 ghost use Rattle.dpl_nodes.specs.Typed.{truth_view, range_item};
-ghost use Rattle.dpl_language.specs.Tree.{For as ForTree};
+ghost use Rattle.dpl_language.specs.Tree.{For as ForTree, If as IfTree};
 ghost use Rattle.dpl_lowered.specs.Shapes.{nowhere};
 ghost use Rattle.dpl_nodes.specs.Steps.{listed, variable_in};
 ghost use Rattle.dpl_frame.specs.Faults.{as_range};
@@ -77,7 +77,8 @@ pub fn run<'t, C: Context>(
     Ok(())
 }
 
-// One statement: what is done to an int at once, where its number is found directly, so that it needs no room for what may go wrong.
+// One statement: what is done to an int at once, where its number is found directly, so that it needs no room for what may go wrong; and a
+// branch without the room that other statements need.
 #[cycle(run)]
 #[inline(always)]
 fn statement<'t, C: Context>(
@@ -91,14 +92,21 @@ fn statement<'t, C: Context>(
         (exec frame.old.limits in_memory (step_in C.standing step.now) frame.old.memory (C.having out.old done)) }
     ensures limits { frame.new.limits ≡ frame.old.limits }
 {
-    let Step::Int(deed, slot, e) = step else {
-        return any_statement(step, context, frame, out);
-    };
-    let Some(number) = direct_number(deed, *slot, e, frame) else {
-        return any_statement(step, context, frame, out);
-    };
-    frame.set_number(*slot, number);
-    Ok(())
+    match step {
+        Step::Int(deed, slot, e) => {
+            let Some(number) = direct_number(deed, *slot, e, frame) else {
+                return any_statement(step, context, frame, out);
+            };
+            frame.set_number(*slot, number);
+            Ok(())
+        }
+        Step::If {
+            condition,
+            body,
+            otherwise,
+        } => branch(condition, body, otherwise, context, frame, out),
+        _ => any_statement(step, context, frame, out),
+    }
 }
 
 // A statement of any kind.
@@ -140,13 +148,7 @@ fn any_statement<'t, C: Context>(
             condition,
             body,
             otherwise,
-        } => {
-            if truth_value(condition, frame, context)?.get() {
-                run(body, context, frame, out)
-            } else {
-                alternative(otherwise, context, frame, out)
-            }
-        }
+        } => branch(condition, body, otherwise, context, frame, out),
         Step::While {
             at,
             condition,
@@ -181,7 +183,31 @@ fn any_statement<'t, C: Context>(
     }
 }
 
-// A `for`. The loops are functions of their own, so that a statement that holds no other needs no place for theirs.
+// An `if`.
+#[cycle(run)]
+#[inline(never)]
+fn branch<'t, C: Context>(
+    condition: &BoolExpr<'t>,
+    body: &[Step<'t>],
+    otherwise: &Else<'t>,
+    context: &C,
+    frame: &mut Frame<C::Kept>,
+    out: &mut C::Out,
+) -> Result<(), RunStop>
+    requires ready { C.is_ready context.now }
+    ensures ends { (done : Deeds) → RunsTo (MayRefuseSome (C.may_refuse context.now)) result frame.new.memory (C.having out.new done)
+        (exec frame.old.limits in_memory (IfTree nowhere (truth_view condition.now) (listed (steps_in C.standing body.now))
+        (else_in C.standing otherwise.now)) frame.old.memory (C.having out.old done)) }
+    ensures limits { frame.new.limits ≡ frame.old.limits }
+{
+    if truth_value(condition, frame, context)?.get() {
+        run(body, context, frame, out)
+    } else {
+        alternative(otherwise, context, frame, out)
+    }
+}
+
+// A `for`. Branches and loops are functions of their own, so that a statement that holds no other needs no place for theirs.
 #[cycle(run)]
 #[inline(never)]
 fn for_loop<'t, C: Context>(

@@ -64,8 +64,6 @@ fn walked_int<A: Arrays>(e: &IntExpr<'_>, frame: &Frame<A>) -> Option<i64>
     ensures { IfSome result (λ n. int_in frame.now e.now ≡ Ok (Int n)) }
 {
     match e {
-        IntExpr::Number(n) => Some(*n),
-        IntExpr::Local(slot) => Some(frame.number(*slot)),
         IntExpr::Negative(e) => Some(negative(direct_int(e, frame)?)),
         IntExpr::Sum(a, b) => {
             let (left, right) = direct_two(a, b, frame)?;

@@ -170,19 +170,41 @@ statement::any_statement-returns-in-Block-clause-ends g t c done =
     (ap (λ s. exec limits in_memory (step_in standing s) w d) c.in-Block.is ∙ ap (λ t. exec limits in_memory t w d) (block_in standing c.in-Block.steps) ∙ scoped-same (exec_all limits in_memory (steps_in standing c.in-Block.steps.now)) w d)
     (c.run.ensures.ends done)
 
-pub statement::any_statement-returns-then-get-clause-ends : goal.statement::any_statement-returns-then-get-clause-ends
-statement::any_statement-returns-then-get-clause-ends g t c done =
+pub statement::statement-returns-in-If-clause-ends : goal.statement::statement-returns-in-If-clause-ends
+statement::statement-returns-in-If-clause-ends g t c done =
     let having = g.C.Context.having in
     let standing = g.C.Context.standing in
     let limits = c.args.frame.now.limits in
     let w = c.args.frame.now.memory in
     let d = having c.args.out.now done in
-    let holding : c.in_ok-truth_value-in-If.field-0 ≡ true = search rules in
-    ends-alike _ c.run-then-get.result c.run-then-get.new.frame.memory (having c.run-then-get.new.out done) _ _
+    ends-alike _ c.branch.result c.branch.new.frame.memory (having c.branch.new.out done) _ _
     (ap (λ s. exec limits in_memory (step_in standing s) w d) c.in-If.is
-    ∙ ap (λ t. exec limits in_memory t w d) (if_in standing c.in-If.condition c.in-If.body c.in-If.otherwise)
-    ∙ if-then limits (truth_view c.in-If.condition.now) (steps_in standing c.in-If.body.now) (else_in standing c.in-If.otherwise) w d (c.in_ok-truth_value-in-If.ensures ∙ ap (λ b. Ok (Truth b)) holding))
-    (c.run-then-get.ensures.ends done)
+    ∙ ap (λ t. exec limits in_memory t w d) (if_in standing c.in-If.condition c.in-If.body c.in-If.otherwise))
+    (c.branch.ensures.ends done)
+
+pub statement::any_statement-returns-in-If-clause-ends : goal.statement::any_statement-returns-in-If-clause-ends
+statement::any_statement-returns-in-If-clause-ends g t c done =
+    let having = g.C.Context.having in
+    let standing = g.C.Context.standing in
+    let limits = c.args.frame.now.limits in
+    let w = c.args.frame.now.memory in
+    let d = having c.args.out.now done in
+    ends-alike _ c.branch.result c.branch.new.frame.memory (having c.branch.new.out done) _ _
+    (ap (λ s. exec limits in_memory (step_in standing s) w d) c.in-If.is
+    ∙ ap (λ t. exec limits in_memory t w d) (if_in standing c.in-If.condition c.in-If.body c.in-If.otherwise))
+    (c.branch.ensures.ends done)
+
+pub statement::branch-returns-then-get-clause-ends : goal.statement::branch-returns-then-get-clause-ends
+statement::branch-returns-then-get-clause-ends g t c done =
+    let having = g.C.Context.having in
+    let standing = g.C.Context.standing in
+    let limits = c.args.frame.now.limits in
+    let w = c.args.frame.now.memory in
+    let d = having c.args.out.now done in
+    let holding : c.in_ok-truth_value.field-0 ≡ true = search rules in
+    ends-alike _ c.run.result c.run.new.frame.memory (having c.run.new.out done) _ _
+    (if-then limits (truth_view c.args.condition.now) (steps_in standing c.args.body.now) (else_in standing c.args.otherwise.now) w d (c.in_ok-truth_value.ensures ∙ ap (λ b. Ok (Truth b)) holding))
+    (c.run.ensures.ends done)
 
 pub statement::any_statement-returns-in-While-clause-ends : goal.statement::any_statement-returns-in-While-clause-ends
 statement::any_statement-returns-in-While-clause-ends g t c done =
