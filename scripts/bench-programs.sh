@@ -1,9 +1,10 @@
 #!/bin/sh
 # Times dpl on a forall of ten million turns, on Collatz sequences up to a number, on the programs of benches/programs (a sieve, stencils over a
 # line and a plane, sums over arrays, an assignment to a whole array, and the print of one), on 50,000 statements and on a mebibyte of spaces, each beside lua5.4,
-# python3, numpy and C doing the same where they have it, all in one run. At the end stands how much memory the stencil over a plane takes.
-# usage: scripts/bench-programs.sh [ROUNDS [LAST]]. Needs rt, python3 and cc, and beside them lua5.4, and numpy for /usr/bin/python3 (a column is 0 without it);
-# LAST, 1000000 without it, is where Collatz ends.
+# luajit, python3, numpy and C doing the same where they have it, all in one run; python3, which is slow, in the first round alone. At the end stands how much
+# memory the stencil over a plane takes.
+# usage: scripts/bench-programs.sh [ROUNDS [LAST]]. Needs rt, python3 and cc, and beside them lua5.4, luajit, and numpy for /usr/bin/python3 (a column is 0
+# without it); LAST, 1000000 without it, is where Collatz ends.
 set -eu
 
 rounds=${1:-5}
@@ -77,6 +78,10 @@ find_executable
 dpl=$executable
 cp "$top"/benches/programs/* "$work"
 for program in turns collatz sieve line plane plate jacobi sums promoted assigned printed; do cc -O2 -o "$work/$program" "$work/$program.c"; done
+# luajit has no `//`, and its numbers are doubles: so the sum of squares is another one there.
+for program in turns collatz sieve line plane plate jacobi sums promoted assigned printed statements; do
+    sed 's|\(([^()]*)\) // \([0-9]*\)|math.floor(\1 / \2)|g; s|\([a-z]*\) // \([0-9]*\)|math.floor(\1 / \2)|g' "$work/$program.lua" > "$work/$program.jit.lua"
+done
 
 # The seconds that a command takes on a file of the benchmark.
 seconds() {
@@ -87,29 +92,34 @@ seconds() {
     echo "$begun $(date +%s%N)" | awk '{ printf "%.3f", ($2 - $1) / 1000000000 }'
 }
 
-# A line of times on the same program: its name, and those of dpl, lua5.4, python3, numpy and C, 0 where there is none.
+# A line of times on the same program in a round: its name, and those of dpl, lua5.4, luajit, python3, numpy and C, 0 where there is none.
 beside() {
     printf '%s %s ' "$1" "$(seconds "$1.chpl" "$dpl" --budget 4294967296)"
     if command -v lua5.4 > /dev/null; then seconds "$1.lua" lua5.4 -; else printf 0; fi
-    printf ' %s ' "$(seconds "$1.py" python3 -)"
+    printf ' '
+    if command -v luajit > /dev/null; then seconds "$1.jit.lua" luajit -; else printf 0; fi
+    printf ' '
+    if [ "$2" = 1 ]; then seconds "$1.py" python3 -; else printf 999999; fi
+    printf ' '
     if [ -f "$work/$1.np.py" ] && /usr/bin/python3 -c 'import numpy' 2> /dev/null; then seconds "$1.np.py" /usr/bin/python3 -; else printf 0; fi
     printf ' '
     if [ -x "$work/$1" ]; then seconds "$1.chpl" "$work/$1"; else printf 0; fi
     echo
 }
 
-for _ in $(seq "$rounds"); do
-    for program in turns collatz sieve line plane plate jacobi sums promoted assigned printed statements; do beside "$program"; done
-    echo "spaces $(seconds spaces.chpl "$dpl") 0 0 0 0"
+for round in $(seq "$rounds"); do
+    for program in turns collatz sieve line plane plate jacobi sums promoted assigned printed statements; do beside "$program" "$round"; done
+    echo "spaces $(seconds spaces.chpl "$dpl") 0 0 0 0 0"
 done | awk '
-    !($1 in order) { order[$1] = ++rows; name[rows] = $1; for (k = 2; k <= 6; k++) best[$1, k] = $k }
-    { for (k = 2; k <= 6; k++) if ($k < best[$1, k]) best[$1, k] = $k }
+    !($1 in order) { order[$1] = ++rows; name[rows] = $1; for (k = 2; k <= 7; k++) best[$1, k] = $k }
+    { for (k = 2; k <= 7; k++) if ($k < best[$1, k]) best[$1, k] = $k }
     function ratio(a, b) { return b > 0 ? sprintf("%.2f", a / b) : "" }
     END {
-        printf "%-12s %8s %8s %8s %8s %8s %9s %9s\n", "seconds", "dpl", "lua5.4", "python3", "numpy", "C", "/ lua5.4", "/ numpy"
+        printf "%-12s %8s %8s %8s %8s %8s %8s %9s %9s %9s %9s\n", "seconds", "dpl", "lua5.4", "luajit", "python3", "numpy", "C", "/ lua5.4", "/ luajit", "/ numpy", "/ C"
         for (r = 1; r <= rows; r++) {
             p = name[r]
-            printf "%-12s %8.3f %8.3f %8.3f %8.3f %8.3f %9s %9s\n", p, best[p, 2], best[p, 3], best[p, 4], best[p, 5], best[p, 6], ratio(best[p, 2], best[p, 3]), ratio(best[p, 2], best[p, 5])
+            printf "%-12s %8.3f %8.3f %8.3f %8.3f %8.3f %8.3f %9s %9s %9s %9s\n", p, best[p, 2], best[p, 3], best[p, 4], best[p, 5], best[p, 6], best[p, 7], \
+                ratio(best[p, 2], best[p, 3]), ratio(best[p, 2], best[p, 4]), ratio(best[p, 2], best[p, 6]), ratio(best[p, 2], best[p, 7])
         }
     }'
 
