@@ -18,7 +18,7 @@ ghost use Rattle.dpl_values.specs.Reductions.{MayRefuseReduction, EachInRange};
 ghost use Rattle.dpl_readings.specs.Readings.{step_in, else_in, steps_in};
 ghost use Rattle.dpl_elements.specs.Turns.{in_turn, turn_in_memory, looped_over};
 
-use crate::change::{change_int, direct_number};
+use crate::change::direct_number;
 use crate::context::Context;
 use crate::declare::declare_array;
 use crate::domain::{declare_domain, set_domain};
@@ -77,8 +77,8 @@ pub fn run<'t, C: Context>(
     Ok(())
 }
 
-// One statement: what is done to an int at once, where its number is found directly, so that it needs no room for what may go wrong; and a
-// branch without the room that other statements need.
+// One statement. The four kinds that loops are made of come first, without the room that others need; and what is done to an int is done at
+// once where its number is found directly, so that it needs none for what may go wrong.
 #[cycle(run)]
 #[inline(always)]
 fn statement<'t, C: Context>(
@@ -105,6 +105,10 @@ fn statement<'t, C: Context>(
             body,
             otherwise,
         } => branch(condition, body, otherwise, context, frame, out),
+        Step::Truth(target, e) => simple::truth(target, e, frame, context),
+        Step::SetElement(name, t, op, sign, e) => simple::element(
+            name, t, *op, sign, e, frame, context,
+        ),
         _ => any_statement(step, context, frame, out),
     }
 }
@@ -125,7 +129,7 @@ fn any_statement<'t, C: Context>(
 {
     match step {
         Step::Nothing => Ok(()),
-        Step::Int(deed, slot, e) => change_int(deed, *slot, e, frame, context),
+        Step::Int(deed, slot, e) => simple::int(deed, *slot, e, frame, context),
         Step::DeclareRange(slot, e) => simple::range(*slot, e, frame, context),
         Step::SetRange(slot, e) => simple::range(*slot, e, frame, context),
         Step::Truth(target, e) => simple::truth(target, e, frame, context),

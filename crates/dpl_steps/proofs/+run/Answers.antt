@@ -28,16 +28,29 @@ use Rattle.dpl_readings.proofs.Views.{for_each_in, forall_in, block_in, if_in, w
 use Rattle.dpl_steps.proofs.+run.Goals as goal
 
 -- DECLARATIONS AND ASSIGNMENTS
+pub statement::statement-returns-in-Truth-clause-ends : goal.statement::statement-returns-in-Truth-clause-ends
+statement::statement-returns-in-Truth-clause-ends g t c done =
+    let having = g.C.Context.having in
+    let standing = g.C.Context.standing in
+    let d = having c.args.out.now done in
+    ends-alike _ c.truth.result c.truth.new.frame.memory d _ _
+    (ap (λ s. exec c.args.frame.now.limits in_memory (step_in standing s) c.args.frame.now.memory d) c.in-Truth.is) (c.truth.ensures.ends d)
+
+pub statement::statement-returns-in-SetElement-clause-ends : goal.statement::statement-returns-in-SetElement-clause-ends
+statement::statement-returns-in-SetElement-clause-ends g t c done =
+    let having = g.C.Context.having in
+    let standing = g.C.Context.standing in
+    let d = having c.args.out.now done in
+    ends-alike _ c.element.result c.element.new.frame.memory d _ _
+    (ap (λ s. exec c.args.frame.now.limits in_memory (step_in standing s) c.args.frame.now.memory d) c.in-SetElement.is) (c.element.ensures.ends d)
+
 pub statement::any_statement-returns-in-Int-clause-ends : goal.statement::any_statement-returns-in-Int-clause-ends
 statement::any_statement-returns-in-Int-clause-ends g t c done =
     let having = g.C.Context.having in
     let standing = g.C.Context.standing in
-    let limits = c.args.frame.now.limits in
-    let w = c.args.frame.now.memory in
     let d = having c.args.out.now done in
-    gives-ends _ c.change_int.result c.change_int.new.frame.memory d _ _
-    (ap (λ s. exec limits in_memory (step_in standing s) w d) c.in-Int.is ∙ exec-int limits c.in-Int.deed c.in-Int.slot (One (int_view c.in-Int.e.now)) w d (cell_read-int c.in-Int.e.now))
-    c.change_int.ensures.memory
+    ends-alike _ c.int.result c.int.new.frame.memory d _ _
+    (ap (λ s. exec c.args.frame.now.limits in_memory (step_in standing s) c.args.frame.now.memory d) c.in-Int.is) (c.int.ensures.ends d)
 
 pub statement::any_statement-returns-in-DeclareRange-clause-ends : goal.statement::any_statement-returns-in-DeclareRange-clause-ends
 statement::any_statement-returns-in-DeclareRange-clause-ends g t c done =
