@@ -3,6 +3,7 @@
 use dpl_array::Row;
 
 /// What turns write: the word in a slot; and of the array in it one element each, at the indices of a row, turn by turn.
+#[derive(Drop)]
 pub struct Target {
     pub slot: usize,
     pub at: Row,
