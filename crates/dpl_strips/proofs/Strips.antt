@@ -1,17 +1,20 @@
 -- Words that are written one after another; and the values of operators by those of both sides.
-use Rattle.std.proofs.Common.{◌≡◌, ◌≢◌, Bool, true, false, int_div, int_rem, ◌<◌, ◌≤◌, ◌+◌, ℕ, zero, suc, ℤ, pos, List, [], ◌∷◌, length, get_or, set, take, replicate, Option, Result, Ok, arith, refl, sym, subst, ap, ◌∙◌, ◌⊎◌, ⊎_elim, inl, inr}
+use Rattle.std.proofs.Common.{◌≡◌, ◌≢◌, Bool, true, false, int_div, int_rem, ◌<◌, ◌≤◌, ◌+◌, ℕ, zero, suc, ℤ, pos, List, [], ◌∷◌, length, get_or, set, take, replicate, Option, Some, None, Result, Ok, Err, option_map, arith, refl, sym, subst, ap, ◌∙◌, ◌⊎◌, ⊎_elim, inl, inr}
 use Rattle.std.specs.Ordering.{int_eq}
 use Rattle.std.proofs.lemmas.List.{get_or-set_same, get_or-set_other, get_or-take}
 use Rattle.std.proofs.lemmas.Bool.Decides.{Decides-int_eq}
 use Rattle.dpl_syntax.specs.declared.place.Place.{Place}
 use Rattle.dpl_language.specs.Arithmetic.{wrap}
 use Rattle.dpl_array.specs.Elements.{Row, behind}
-use Rattle.dpl_language.specs.Tree.{ExprTree, Divide, Remainder}
-use Rattle.dpl_language.specs.Values.{Value, Fault, Index, Int}
-use Rattle.dpl_language.specs.Expressions.{value_of}
+use Rattle.dpl_language.specs.Tree.{IntKind, ExprTree, Divide, Remainder}
+use Rattle.dpl_language.specs.Values.{Value, Fault, Index, Int, index_of}
+use Rattle.dpl_language.specs.Outcome.{with_ok}
+use Rattle.dpl_language.specs.Expressions.{value_of, items_of, values_of, found}
 use Rattle.dpl_language.specs.Environment.{Limits}
 use Rattle.dpl_lowered.specs.Shapes.{nowhere, two}
-use Rattle.dpl_memory.specs.Memory.{Variable, Memory, in_memory}
+use Rattle.dpl_memory.specs.Memory.{Variable, Held, Memory, element_as, held_at, array_at, in_memory}
+use Rattle.dpl_nodes.specs.declared.tree.IndexExpr.{IndexExpr, Line', Plane', Space', Tuple}
+use Rattle.dpl_nodes.specs.Typed.{array_named, in_square, index_items, index_exprs}
 use Rattle.dpl_loop.specs.declared.strip.Strip.{Strip}
 use Rattle.dpl_strips.specs.declared.apply.Wrapping.{Wrapping}
 use Rattle.dpl_strips.specs.declared.apply.Wrapping.TheVariants as wrapping
@@ -85,3 +88,26 @@ module _ (limits : Limits) (a b : ExprTree Variable) (t : Option Index) (s : Mem
 
   pub remainder-at : (at : Place) → y ≢ pos 0 → value_of limits in_memory (two a at Remainder b) t s ≡ Ok (Int (wrap (int_rem x y)))
   remainder-at at some = rw left (rw right (rw (not_zero y some) refl))
+
+-- ---- elements
+-- the coordinates of an index are its items
+items-values : (limits : Limits) (x : IndexExpr) (u : Memory) → items_of limits in_memory (index_items x) u ≡ values_of limits in_memory (index_exprs x) u
+items-values limits (Line' p a) u = refl
+items-values limits (Plane' p a q b) u = refl
+items-values limits (Space' p a q b r c) u = refl
+items-values limits (Tuple slot) u = refl
+
+-- the word at an index that is found is the element's value
+found-word : (at : Place) (held : Held) (t : Index) (word : ℤ) (found_at : Result (List Value) Fault) → with_ok found_at (λ vs. Ok (index_of vs)) ≡ Ok t → held_at t held ≡ Some word
+    → with_ok (with_ok found_at (λ vs. found at (option_map (element_as IntKind) (held_at (index_of vs) held)))) (λ w. Ok w) ≡ Ok (Int word)
+found-word at held t word (Ok vs) index there =
+    let same : index_of vs ≡ t = cc in
+    ap (λ i. with_ok (found at (option_map (element_as IntKind) (held_at i held))) (λ w. Ok w)) same
+    ∙ ap (λ o. with_ok (found at (option_map (element_as IntKind) o)) (λ w. Ok w)) there
+found-word at held t word (Err f) index there = absurd cc
+
+pub element-value : (limits : Limits) (slot : ℕ) (x : IndexExpr) (at : Place) (u : Memory) (t : Index) (word : ℤ)
+    → with_ok (values_of limits in_memory (index_exprs x) u) (λ vs. Ok (index_of vs)) ≡ Ok t → held_at t (array_at slot u) ≡ Some word
+    → value_of limits in_memory (in_square (array_named IntKind slot at) (index_items x)) None u ≡ Ok (Int word)
+element-value limits slot x at u t word index there =
+    found-word at (array_at slot u) t word (items_of limits in_memory (index_items x) u) (ap (λ r. with_ok r (λ vs. Ok (index_of vs))) (items-values limits x u) ∙ index) there

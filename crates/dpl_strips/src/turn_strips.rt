@@ -126,10 +126,7 @@ fn elements<'f, A: Arrays>(
         row (length words.now) (λ k. get_or words.now k (pos 0))) }
 {
     let at = turn_row(index, names, target.slot, row, frame)?;
-    if slot != target.slot {
-        return Some(frame.run(slot, at));
-    }
-    if !is_same(at, target.at) {
+    if slot == target.slot && !is_same(at, target.at) {
         return None;
     }
     Some(frame.run(slot, at))
