@@ -109,7 +109,25 @@ pub fn turn_row<A: Arrays>(
 fn is_same(a: Row, b: Row) -> bool
     ensures { IsTrue result → a ≡ b }
 {
-    a.first() == b.first() && a.step() == b.step()
+    let (one, other) = (a.first(), b.first());
+    if one.rank() != other.rank() {
+        return false;
+    }
+    if a.step() != b.step() {
+        return false;
+    }
+    let (x, y, z) = one.numbers();
+    let (u, v, w) = other.numbers();
+    if x != u {
+        return false;
+    }
+    if y != v {
+        return false;
+    }
+    if z != w {
+        return false;
+    }
+    true
 }
 
 // The elements of an array that the turns find, where they lie side by side and no other turn writes them.
