@@ -16,13 +16,13 @@ returns-in_err-index g c =
     let wider = refused-within (g.G.Gate.may_refuse c.args.gate.now) c.args.frame.now in
     let p = err_from_is_err_and c.from_residual-in_err-index.result c.from_residual-in_err-index.ensures.1 in
     rw (p.1, p.2)
-    (with_ok-ends (MayRefuseReduction (g.G.Gate.may_refuse c.args.gate.now) c.args.frame.now (EachInIndex c.args.t.now)) _ (λ t. t) c.index_value-index.new.turn c.in_err-index.field-0.0 _
+    (with_ok-ends (MayRefuseReduction (g.G.Gate.may_refuse c.args.gate.now) c.args.frame.now (EachInIndex c.args.t.now)) _ (λ t. t) c.index_value.new.turn c.in_err-index.field-0.0 _
     (λ t. Ok (Truth (contains_index c.in_ok-domain.domain t))) _ Truth
     (wider (EachInIndex c.args.t.now) (EachInHasIndex c.args.d.now c.args.t.now) (λ Holds all. all.1))
     (domain_contains c.args.frame.now.limits c.args.frame.now.memory c.args.d.now (index_exprs c.args.t.now) c.in_ok-domain.domain _ c.in_ok-domain.ensures refl)
     c.in_err-index.ensures)
 
-pub returns-in_ok-index : goal.returns-in_ok-index
-returns-in_ok-index g c =
+pub returns : goal.returns
+returns g c =
     domain_contains c.args.frame.now.limits c.args.frame.now.memory c.args.d.now (index_exprs c.args.t.now) c.in_ok-domain.domain _ c.in_ok-domain.ensures c.in_ok-index.ensures
     ∙ search rules
