@@ -12,3 +12,5 @@ pub mod Meaning
 pub mod Stages
 pub mod Runnable
 pub mod Declared
+-- By which array's map turns are dealt out is what the rules say.
+pub mod FirstWritten

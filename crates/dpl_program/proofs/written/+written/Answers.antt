@@ -1,9 +1,10 @@
 -- What a statement writes first, by its form.
 use Rattle.std.proofs.Common.{ℕ, Option, sym, ap, ◌∙◌}
+use Rattle.std.specs.Option.{option_or}
 use Rattle.dpl_nodes.specs.declared.step.Step.{Step}
 use Rattle.dpl_standing.specs.Standing.{InTurn}
 use Rattle.dpl_readings.specs.Readings.{step_in, else_in}
-use Rattle.dpl_steps.specs.Written.{or_written, written_by, written_else}
+use Rattle.dpl_steps.specs.Written.{written_by, written_else}
 use Rattle.dpl_readings.proofs.Views.{block_in, if_in, while_in, for_in, for_each_in}
 use Rattle.dpl_program.proofs.written.+written.Goals as goal
 
@@ -18,7 +19,7 @@ written_by-returns-in-Some t c =
     let i = c.in-If in
     sym
     (ap of_step i.is ∙ ap written_by (if_in InTurn i.condition i.body i.otherwise)
-    ∙ ap (λ o. or_written o (written_else (else_in InTurn i.otherwise))) (sym c.written-in-If.ensures ∙ c.in-Some.is))
+    ∙ ap (λ o. option_or o (written_else (else_in InTurn i.otherwise))) (sym c.written-in-If.ensures ∙ c.in-Some.is))
 
 pub written_by-returns-in-None : goal.written_by-returns-in-None
 written_by-returns-in-None t c =
@@ -26,7 +27,7 @@ written_by-returns-in-None t c =
     c.written_else.ensures
     ∙ sym
     (ap of_step i.is ∙ ap written_by (if_in InTurn i.condition i.body i.otherwise)
-    ∙ ap (λ o. or_written o (written_else (else_in InTurn i.otherwise))) (sym c.written-in-If.ensures ∙ c.in-None.is))
+    ∙ ap (λ o. option_or o (written_else (else_in InTurn i.otherwise))) (sym c.written-in-If.ensures ∙ c.in-None.is))
 
 pub written_by-returns-in-While : goal.written_by-returns-in-While
 written_by-returns-in-While t c =
