@@ -6,5 +6,4 @@ pub mod Alongside
 pub mod PutRows
 pub mod BoundAgain
 pub mod RowTurns
-pub mod Listed
 pub mod Wholes

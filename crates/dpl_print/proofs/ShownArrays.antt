@@ -11,7 +11,7 @@ use Rattle.dpl_memory.specs.Memory.{Held, Memory, array_at, word_at, held_at, el
 use Rattle.dpl_contents.specs.Domains.{AreWritten}
 use Rattle.dpl_contents.proofs.Sizes.{size_in-is}
 use Rattle.dpl_print.specs.Texts.{array_text}
-use Rattle.dpl_elements.proofs.Listed.{indices_in-distinct, map-word_at}
+use Rattle.dpl_values.proofs.Listed.{indices_in-distinct, map-word_at}
 
 abbrev text_of : Kind → Held → List ℕ
 text_of k a = printed_array a.ranges (map (λ t. unwrap_or (option_map (element_as k) (held_at t a)) (Int (pos 0))) (indices_in a.ranges))

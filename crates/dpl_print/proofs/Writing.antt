@@ -8,6 +8,7 @@ use Rattle.dpl_language.specs.Outcome.{Deeds, Done, Run, with_ok, with_value, wi
 use Rattle.dpl_language.specs.Environment.{Limits}
 use Rattle.dpl_language.specs.Phrases.{bare_name, cell_read}
 use Rattle.dpl_language.specs.Expressions.{value_of}
+use Rattle.dpl_language.specs.Assignments.{read_or}
 use Rattle.dpl_language.specs.Writing.{line_end, shown, arguments_of, arguments_then}
 use Rattle.dpl_language.specs.Statements.{exec}
 use Rattle.dpl_memory.specs.Memory.{Variable, Memory, in_memory}
@@ -17,7 +18,6 @@ use Rattle.dpl_nodes.specs.Typed.{int_view, truth_view}
 use Rattle.dpl_nodes.specs.Steps.{argument_view, next_argument_view, arguments_view, written_as}
 use Rattle.dpl_print.specs.Texts.{array_text, arguments_text, behind}
 use Rattle.dpl_nodes.proofs.Unread.{cell_read-int, cell_read-truth}
-use Rattle.dpl_elements.proofs.Changing.{evaluated-item}
 
 -- one text behind another
 pub behind-append : (text more : List ℕ) (r : Result (List ℕ) Fault) → behind (text ++ more) r ≡ behind text (with_ok r (λ rest. Ok (more ++ rest)))
@@ -49,7 +49,7 @@ module _ (limits : Limits) where
       → arguments_then limits in_memory (ExprArgument e ∷ map argument_view xs) text go s done
       ≡ with_value (behind text (with_ok (with_ok (value_of limits in_memory e None s) (λ v. Ok (shown limits in_memory (bare_name e) v s))) (λ t. with_ok (arguments_text limits xs s) (λ more. Ok (t ++ more))))) go s done
   argument-text e xs text go s done read others =
-      evaluated-item limits (One e) (λ v s done. arguments_then limits in_memory (map argument_view xs) (text ++ shown limits in_memory (bare_name e) v s) go s done) s done read
+      ap (λ o. read_or limits in_memory o (One e) (λ v s done. arguments_then limits in_memory (map argument_view xs) (text ++ shown limits in_memory (bare_name e) v s) go s done) s done) read
       ∙ value-text e xs text go s done (value_of limits in_memory e None s) others
 
   arguments-text : (xs : List Argument) → AreTexts xs

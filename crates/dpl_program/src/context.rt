@@ -17,7 +17,7 @@ ghost use Rattle.dpl_loop.specs.Entries.{MayRefuse, MayRefuseSome};
 ghost use Rattle.dpl_readings.specs.Readings.{steps_in};
 ghost use Rattle.dpl_values.specs.Teams.{TellsInts, TellsTruths};
 ghost use Rattle.dpl_steps.specs.Dealt.{dealt_by};
-ghost use Rattle.dpl_steps.specs.Written.{written_among};
+ghost use Rattle.dpl_readings.specs.Written.{written_among};
 ghost use Rattle.dpl_elements.specs.Turns.{index_turn, intended_turns};
 ghost use Rattle.dpl_print.specs.Texts.{having_printed};
 ghost use Rattle.dpl_program.specs.Making.{HasMade, HasMadeWhole};

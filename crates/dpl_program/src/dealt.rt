@@ -4,7 +4,7 @@ ghost use Rattle.std.specs.Prelude.{◌≡◌};
 ghost use Rattle.dpl_standing.specs.Standing.{InTurn};
 ghost use Rattle.dpl_readings.specs.Readings.{steps_in};
 ghost use Rattle.dpl_steps.specs.Dealt.{slot_map, dealt_by};
-ghost use Rattle.dpl_steps.specs.Written.{written_among};
+ghost use Rattle.dpl_readings.specs.Written.{written_among};
 
 use crate::written::written;
 use dpl_frame::{Arrays, Frame};

@@ -3,7 +3,7 @@
 ghost use Rattle.std.specs.Prelude.{◌≡◌};
 ghost use Rattle.dpl_standing.specs.Standing.{InTurn};
 ghost use Rattle.dpl_readings.specs.Readings.{step_in, else_in, steps_in};
-ghost use Rattle.dpl_steps.specs.Written.{written_by, written_else, written_among};
+ghost use Rattle.dpl_readings.specs.Written.{written_by, written_else, written_among};
 
 use dpl_nodes::step::Else;
 use dpl_nodes::{Step, TruthTarget};

@@ -39,7 +39,7 @@ use Rattle.dpl_lowered.specs.LoweredStatements.{lowered_body}
 use Rattle.dpl_agreement.specs.Renamed.{renamed_body}
 use Rattle.dpl_memory.specs.Memory.{DomainKind, TupleKind, ArrayKind, Variable}
 use Rattle.dpl_memory.specs.Resolved.{Bound, text_of, variable_of}
-use Rattle.dpl_steps.specs.Written.{slot_of}
+use Rattle.dpl_readings.specs.Written.{slot_of}
 use Rattle.dpl_typer.specs.Makers.{kind_if}
 use Rattle.dpl_typer.specs.Leaves.{is_rank, is_tuple_rank, value_kind, kind_by}
 use Rattle.dpl_typer.specs.Sights.{is_promoted_type}

@@ -15,7 +15,7 @@ use Rattle.dpl_frame.specs.Faults.{fault_view}
 use Rattle.dpl_loop.specs.declared.stop.RunStop.{RunStop}
 use Rattle.dpl_loop.specs.declared.stop.RunStop.TheVariants as stop
 use Rattle.dpl_steps.specs.Runs.{Names, Gathers}
-use Rattle.dpl_elements.proofs.Listed.{indices_in-distinct, with_word-behind}
+use Rattle.dpl_values.proofs.Listed.{indices_in-distinct, with_word-behind}
 
 -- the array whose words are some, and behind them those of values; or the fault
 abbrev pub behind_words : List TextRange → List ℤ → Result (List Value) Fault → Result Held Fault

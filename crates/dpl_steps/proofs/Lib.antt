@@ -1,6 +1,5 @@
 pub mod Looping
 pub mod Rooting
-pub mod Standing
 pub mod Tested
 pub mod Gathered
 pub mod ArrayItems

@@ -4,7 +4,7 @@ use Rattle.std.specs.Option.{option_or}
 use Rattle.dpl_nodes.specs.declared.step.Step.{Step}
 use Rattle.dpl_standing.specs.Standing.{InTurn}
 use Rattle.dpl_readings.specs.Readings.{step_in, else_in}
-use Rattle.dpl_steps.specs.Written.{written_by, written_else}
+use Rattle.dpl_readings.specs.Written.{written_by, written_else}
 use Rattle.dpl_readings.proofs.Views.{block_in, if_in, while_in, for_in, for_each_in}
 use Rattle.dpl_program.proofs.written.+written.Goals as goal
 

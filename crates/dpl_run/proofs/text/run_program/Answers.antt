@@ -18,7 +18,7 @@ use Rattle.dpl_run.proofs.Meaning.{means-ran}
 use Rattle.dpl_run.proofs.Declared.{top-left, tops-left}
 use Rattle.dpl_run.proofs.Planned.{planned, sets-fit}
 use Rattle.dpl_run.proofs.Standing.{plan-stands}
-use Rattle.dpl_steps.proofs.Standing.{steps_in-of}
+use Rattle.dpl_readings.proofs.Standing.{steps_in-of}
 use Rattle.dpl_run.proofs.text.run_program.Goals as goal
 
 pub returns-in-Ok-clause-means : goal.returns-in-Ok-clause-means
