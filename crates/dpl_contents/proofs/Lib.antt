@@ -5,6 +5,7 @@ pub mod Expansions
 pub mod Members
 pub mod Words
 pub mod PutLemmas
+pub mod DealtLemmas
 pub mod PieceWordLemmas
 pub mod PartedLemmas
 pub mod Rejoined

@@ -9,4 +9,5 @@ pub mod Domains
 pub mod DomainFields
 pub mod Arrays
 pub mod Pieces
+pub mod Dealt
 pub mod Layout

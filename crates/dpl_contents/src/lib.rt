@@ -4,6 +4,7 @@
 #![tactic(auto)]
 
 mod array;
+mod dealt;
 mod domain;
 mod parts;
 mod piece;

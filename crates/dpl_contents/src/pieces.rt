@@ -1,13 +1,15 @@
 // An array that is taken apart, and put together again.
-// Its pieces are moved, one by one, and nothing is copied.
+// Its pieces are moved, one by one, and nothing is copied unless it has to be dealt anew.
 
-ghost use Rattle.std.specs.Prelude.{◌≡◌, ◌↔◌, ◌<◌, ℤ, List, true, false, Some, None, All, IsSome, IfSome};
-ghost use Rattle.dpl_map.specs.Maps.{AxisValue, owner, locales};
+ghost use Rattle.std.specs.Prelude.{◌≡◌, ◌↔◌, ◌<◌, ℤ, List, true, false, Some, None, All, IsSome, IfOk, IfSome};
+ghost use Rattle.dpl_map.specs.Maps.{owner, locales};
 ghost use Rattle.dpl_contents.specs.Parted.{parted, piece_of, whole_of, with_piece};
 
+use crate::dealt::dealt;
 use crate::{ArrayWords, DomainWord, PieceWords};
 use dpl_array::Pieces;
 use dpl_map::Map;
+use std::alloc::{AllocError, Global};
 use std::marker::Model;
 
 /// An array that is taken apart, seen as its domain, the map by which it is cut, and for each locale the piece that it owns, where that
@@ -31,28 +33,25 @@ impl Model for PiecesWords {
 }
 
 impl ArrayWords {
-    /// Takes the array apart by its map: what each locale owns.
-    pub fn take_pieces(self) -> PiecesWords
-        ensures pieces { (axes : List AxisValue) × (result ≡ parted axes self) }
-        ensures owners { (t : List ℤ) → owner result.axes t < locales result.axes }
-        ensures back { whole_of result ≡ self }
+    /// Takes the array apart by a map: what each locale owns. Where it was cut by another map, it is dealt anew.
+    ///
+    /// # Errors
+    /// Out of memory.
+    pub fn take_pieces(self, alloc: Global, map: &Map) -> Result<PiecesWords, AllocError>
+        ensures pieces { IfOk result (λ ps. ps ≡ parted map.now self) }
+        ensures owners { IfOk result (λ ps. (t : List ℤ) → owner map.now t < locales map.now) }
+        ensures back { IfOk result (λ ps. whole_of ps ≡ self) }
     {
         let domain = self.domain;
-        let pieces = self.array.take_pieces();
+        let array = dealt(alloc, self.array, map)?;
+        let pieces = array.take_pieces();
         // Nothing is read here: that the pieces are formed is a clause of this call.
         let _ = pieces.domain();
-        PiecesWords { domain, pieces }
+        Ok(PiecesWords { domain, pieces })
     }
 }
 
 impl PiecesWords {
-    /// Whether a map is the one by which the array is cut.
-    pub fn is_cut_by(&self, map: &Map) -> bool
-        ensures { (result ≡ true) ↔ (self.now.axes ≡ map.now) }
-    {
-        self.pieces.map().is(map)
-    }
-
     /// Takes out the piece of a locale, if it is there.
     pub fn take(&mut self, locale: u32) -> Option<PieceWords>
         ensures piece { result ≡ piece_of locale self.old }

@@ -1,5 +1,5 @@
 // Loans: elements of an array that are lent to be written, and handed back.
-// A locale that writes elements of arrays whose map is another than the loop's writes a loan of each.
+// So a locale may write elements of arrays whose map is another than the loop's, of which others are the owners.
 
 ghost use Rattle.std.specs.Prelude.{◌≡◌, ◌∷◌, [], ◌++◌, List, ℤ, false, is_some, length, OnOk, IfOk};
 ghost use Rattle.dpl_sets.specs.Indices.{indices};
@@ -80,10 +80,10 @@ impl<T: Copy> Loan<T> {
         self.gathered.set(index, value)
     }
 
-    /// Sets each element of an array that is lent to its value in the loan, and no other. The array is one over the domain
-    /// of that from which was lent; its domain and its map stay.
+    /// Sets each element of an array that is lent to its value in the loan, and no other. The array is one over a domain with
+    /// the indices of that from which was lent, however it is written; its domain and its map stay.
     pub fn settle(self, array: &mut DArray<T>)
-        requires { self.domain ≡ array.old.domain }
+        requires { indices self.domain ≡ indices array.old.domain }
         ensures { array.new ≡ settled self array.old }
     {
         // That an array has a value at each of its indices is a clause of this call.

@@ -61,11 +61,7 @@ taken-next axes m slot slots before t once is =
     ∙ append_assoc before (t ∷ []) (map (taken_from axes m) slots)
     ∙ ap (λ t. before ++ t ∷ map (taken_from axes m) slots) is
 
--- what is cut by a map is taken apart by it
-pub cut-taken : (axes : List AxisValue) (p : Parted) (a h : Held) → (own : List AxisValue) × (p ≡ parted own a) → p.axes ≡ axes → a ≡ h → p ≡ parted axes h
-cut-taken axes p a h is cut same = is.1 ∙ ap (λ own. parted own a) (sym (ap (λ (p : Parted). p.axes) is.1) ∙ cut) ∙ ap (parted axes) same
-
--- and the first of all arrays, before the others
+-- the first of all arrays, before the others
 pub all-taken : {V E : Type 0} (items : V → List Taken) (r : Result V E) (axes : List AxisValue) (m n : Memory) (slots : List ℕ) (before more : List Taken) (t : Taken)
     → 1 ≤ length slots → AreOnce slots → n ≡ with_array (get_or slots 0 0) no_array m → more ≡ before ++ t ∷ [] → t ≡ taken_from axes m (get_or slots 0 0)
     → IfOk r (λ ts. items ts ≡ more ++ all_taken axes n (take (length slots - 1) (drop 1 slots))) → IfOk r (λ ts. items ts ≡ before ++ all_taken axes m slots)

@@ -1,4 +1,5 @@
-// What the workers of a forall hand back: their pieces go into their places, and the arrays into their slots.
+// What the workers of a forall hand back: their pieces go into their places, and the arrays into their slots, dealt out by the maps of their
+// roots as before.
 
 ghost use Rattle.std.specs.Prelude.{◌≡◌, true, get_or, OnOk};
 ghost use Rattle.std.specs.List.{AllByRecursion};
@@ -69,7 +70,10 @@ pub(crate) fn give_back(
     if !put_all(slot, worked, &mut pieces) {
         return Err(AllocError);
     }
-    let Some(array) = pieces.put_back() else {
+    let Some(whole) = pieces.put_back() else {
+        return Err(AllocError);
+    };
+    let Ok(array) = whole.dealt(frame.alloc(), &frame.owner(slot)) else {
         return Err(AllocError);
     };
     frame.keep_array(slot, array);

@@ -1,7 +1,8 @@
 // The loops of foralls and of reductions: they go through the indices of a domain, and ask a gate at each unless it is open.
 // Read `forall`, whose contract says that a forall is a plain loop, with `Gate` and `Turns`, which it takes; and then `reduce`.
 // `forall_here` is what a caller does alone, and `forall` has workers do it where that serves (plan.rt): the
-// memory is tested (formed.rt) and the domain cut into parts (parts.rt), the arrays that turns write are taken apart (taken.rt), each locale
+// memory is tested (formed.rt) and the domain cut into parts (parts.rt), the arrays that turns write are taken apart (taken.rt; one
+// that another map deals out is dealt anew, where that serves: dealt.rt), each locale
 // gets a job (jobs.rt, units.rt), which a thread of its own does (level.rt, part.rt; where its part is several domains, owned.rt, steady.rt);
 // of their ends one is told (soonest.rt), and what they have left is put together (given.rt, joined.rt).
 // `reduce_ints` is a reduction that the caller makes alone, and `reduce_by_workers` has workers fold the parts of its domain where that serves
@@ -13,6 +14,7 @@
 #![tactic(auto)]
 
 mod apart;
+mod dealt;
 mod ended;
 mod fold_owned;
 mod fold_parts;

@@ -1,7 +1,7 @@
 // Foralls by workers: one for each locale whose part of the loop's domain isn't empty. Each owns its pieces of the arrays that the turns
 // write, is lent the others, and adds to reduce variables from nothing; then all is put together.
 // Turns that don't tell how they may be made apart are made in order, and so are those for which workers don't serve: where the gate is open
-// and the loop is small or cut into small blocks, or where an array was dealt out by another map.
+// and the loop is small or cut into small blocks, or writes an array of another map that isn't soon dealt anew (dealt.rt).
 
 ghost use Rattle.std.specs.Prelude.{◌≡◌, [], ◌∷◌, ℕ, None, Ok, Err, map, length, IfOk, IfErr, IfSome, OnOk};
 ghost use Rattle.std.specs.List.{AllByRecursion};
@@ -21,6 +21,7 @@ ghost use Rattle.dpl_loop.specs.Taken.{AreTaken, ArePieces, lacking};
 ghost use Rattle.dpl_loop.specs.Foralls.{IsPlan, HaveMade, put_together};
 
 use crate::apart::Apart;
+use crate::dealt::may_deal;
 use crate::formed::may_start;
 use crate::gate::Gate;
 use crate::given::give_back;
@@ -32,7 +33,7 @@ use crate::loops::turns_of;
 use crate::parts::{Part, parts};
 use crate::soonest::ended;
 use crate::stop::RunStop;
-use crate::taken::{Taken, are_dealt_by, take_all};
+use crate::taken::{Taken, take_all};
 use crate::turns::Turns;
 use dpl_contents::DomainWord;
 use dpl_domain::{Domain, Index};
@@ -94,7 +95,7 @@ fn planned<'b, T: Turns, G: Gate>(
     if !may_start(&apart, frame) {
         return Ok(None);
     }
-    if !are_dealt_by(apart.written, site.map, frame) {
+    if !may_deal(apart.written, site, frame) {
         return Ok(None);
     }
     match parts(frame.alloc(), site.map, site.whole) {

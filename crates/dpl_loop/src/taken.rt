@@ -17,19 +17,11 @@ pub(crate) struct Taken {
     pub(crate) pieces: PiecesWords,
 }
 
-/// Whether the arrays in some slots are dealt out by a map, as the frame has it of their roots.
-pub(crate) fn are_dealt_by(slots: &[usize], map: &Map, frame: &Frame<Slots>) -> bool {
-    match slots {
-        [] => true,
-        [slot, rest @ ..] => frame.owner(*slot).is(map) && are_dealt_by(rest, map, frame),
-    }
-}
-
-/// Takes the arrays out of some slots, and each of them apart, behind what was taken before.
+/// Takes the arrays out of some slots, and each of them apart by a map, behind what was taken before. One that another map deals out is dealt
+/// anew.
 ///
 /// # Errors
-/// Out of memory. So it ends too where a slot has no array, or one that is cut by another map: it would have to be dealt anew, for which
-/// no memory is taken. No loop comes there, as `are_dealt_by` is asked first.
+/// Out of memory. So it ends too where a slot has no array: no loop comes there, as `may_start` is asked first.
 pub(crate) fn take_all(
     slots: &[usize],
     map: &Map,
@@ -47,10 +39,9 @@ pub(crate) fn take_all(
     let Some(array) = frame.take_array(*slot) else {
         return Err(AllocError);
     };
-    let pieces = array.take_pieces();
-    if !pieces.is_cut_by(map) {
+    let Ok(pieces) = array.take_pieces(frame.alloc(), map) else {
         return Err(AllocError);
-    }
+    };
     let mut taken = taken;
     taken.push(Taken {
         slot: *slot,

@@ -215,7 +215,8 @@ fn gates_that_count(rt: HostRuntime) {
     assert_eq!(rt; rows, 9);
 }
 
-// Programs in which the workers 0 and 1 of four make two turns each, or more, of one loop, or fold two items each of one reduction.
+// Programs in which the workers 0 and 1 of four make two turns each, or more, of one loop, or fold two items each of one reduction. The last
+// two write arrays of two maps.
 const MEETINGS: &str = "\
 204~1 4 9 16 25 36 49 64~ <- const D = {1..8} dmapped new blockDist(boundingBox={1..8}); var A: [D] int; forall i in D do A[i] = i*i; writeln(+ reduce A); writeln(A);\n\
 1 2 3 4 5 6 7 8~ <- const D = {1..8} dmapped new blockDist(boundingBox={1..8}); var A: [D] int; forall i in D do A[i] = i; writeln(A);\n\
@@ -227,7 +228,9 @@ const MEETINGS: &str = "\
 24~ <- const D = {1..8} dmapped new blockDist(boundingBox={1..8}); var A: [D] int = 3; writeln(+ reduce A);\n\
 -5~ <- const D = {1..8} dmapped new cyclicDist(startIdx=1); var A: [D] int = 3; var x = 1 - 2 * (max reduce A); writeln(x);\n\
 true~ <- const D = {1..8} dmapped new blockDist(boundingBox={1..8}); var A: [D] int = 3; if && reduce (A > 2) then writeln(true);\n\
-false~ <- const D = {1..8} dmapped new blockDist(boundingBox={1..8}); var B: [D] bool; writeln(|| reduce B);";
+false~ <- const D = {1..8} dmapped new blockDist(boundingBox={1..8}); var B: [D] bool; writeln(|| reduce B);\n\
+1 2 3 4 5 6 7 8|8 7 6 5 4 3 2 1~ <- const D = {1..8} dmapped new blockDist(boundingBox={1..8}); const E = {1..8} dmapped new cyclicDist(startIdx=1); var A: [D] int; var B: [E] int; forall i in D { A[i] = i; B[i] = 9 - i; } writeln(A, '|', B);\n\
+3 6 9 12 15 18 21 24|0 1 2 3 4 5 6 7 8 0~ <- const D = {1..8} dmapped new cyclicDist(startIdx=1); const E = {0..9} dmapped new blockCycDist(startIdx=0, blocksize=2); var A: [D] int; var B: [E] int; forall i in D { A[i] = 3 * i; B[i] = i; } writeln(A, '|', B);";
 
 // Two workers meet twice in the loop or the reduction of each program, and so make its turns or its items on two threads at once.
 #[test]
@@ -241,7 +244,7 @@ fn meetings(rt: HostRuntime) {
         assert!(&rt; said == Ok(bytes_of(&rt, rt.alloc(), bytes)), "{text}");
         rows = rows.saturating_add(1);
     }
-    assert_eq!(rt; rows, 11);
+    assert_eq!(rt; rows, 13);
 }
 
 // What can't be made apart is made by one thread, at which no two workers meet.

@@ -10,7 +10,7 @@ pub returns-clause-memory : goal.returns-clause-memory
 returns-clause-memory t c =
     c.keep_array.ensures
     ∙ given-more c.pop.new.self.items c.in-Some.last c.args.taken.items c.in-Some.ensures.items c.args.worked.now c.give_back.new.worked c.in-Ok.ensures.stay (c.if-not-put_all.ensures.pieces refl)
-    c.args.frame.now c.give_back.new.frame c.put_all.new.pieces c.in-Some-put_back.array c.in-Ok.ensures.memory (c.if-not-put_all.ensures.put refl) c.in-Some-put_back.ensures.array
+    c.args.frame.now c.give_back.new.frame c.put_all.new.pieces c.in-Ok-dealt.array c.in-Ok.ensures.memory (c.if-not-put_all.ensures.put refl) (c.in-Ok-dealt.ensures ∙ c.in-Some-put_back.ensures.array)
 
 pub returns-clause-pieces : goal.returns-clause-pieces
 returns-clause-pieces t c =

@@ -1,10 +1,10 @@
 -- The first array is taken apart, and then the others.
-use Rattle.std.proofs.Common.{get_or, ap}
+use Rattle.std.proofs.Common.{◌≡◌, get_or, ap, ◌∙◌}
 use Rattle.dpl_memory.specs.Memory.{array_at}
-use Rattle.dpl_contents.specs.Parted.{Parted}
+use Rattle.dpl_contents.specs.Parted.{Parted, parted}
 use Rattle.dpl_frame.specs.Frames.{Framed}
 use Rattle.dpl_loop.specs.declared.taken.Taken.{Taken}
-use Rattle.dpl_loop.proofs.TakenApart.{cut-taken, all-taken}
+use Rattle.dpl_loop.proofs.TakenApart.{all-taken}
 use Rattle.dpl_loop.proofs.taken.+take_all.Goals as goal
 
 pub returns-clause-taken : goal.returns-clause-taken
@@ -13,8 +13,8 @@ returns-clause-taken t c =
     let m = c.args.frame.now.memory in
     let slots = c.args.slots.now in
     let slot = get_or slots 0 0 in
-    let pieces = c.take_pieces-pieces.result in
-    let cut = cut-taken axes pieces c.in-Some.array (array_at slot m) c.take_pieces-pieces.ensures.pieces (c.is_cut_by.ensures.0 c.if-not-is_cut_by.false) c.in-Some.ensures.array in
+    let pieces = c.in-Ok.pieces in
+    let cut : pieces ≡ parted axes (array_at slot m) = c.in-Ok.ensures.pieces ∙ ap (parted axes) c.in-Some.ensures.array in
     let first : Taken = record { slot = slot; pieces = pieces } in
     all-taken (λ ts. ts.items) c.take_all.result axes m c.take_array.new.self.memory slots c.args.taken.items c.push.new.self.items first
     c.in-len1-up.len_at_least c.requires.once (ap (λ (f : Framed). f.memory) c.take_array.ensures.leaves) c.in_ok-push.ensures.items
