@@ -3,7 +3,7 @@
 use Rattle.std.specs.Prelude.{ℕ, ℤ, List, None, Some, Result, Ok}
 use Rattle.dpl_syntax.specs.declared.place.Place.{Place}
 use Rattle.dpl_sets.specs.TextRanges.{TextRange}
-use Rattle.dpl_language.specs.Tree.{Word, Plainly, Size}
+use Rattle.dpl_language.specs.Tree.{Word, Plainly, Size, Contains, FirstExpr, NoExprs}
 use Rattle.dpl_language.specs.Values.{Value, Domain, Index, Fault, all_ranges, index_of}
 use Rattle.dpl_language.specs.Ranges.{sized, all_sliced}
 use Rattle.dpl_language.specs.Outcome.{with_ok}
@@ -31,6 +31,13 @@ module _ (f : Framed) where
 
   abbrev pub truth_in : BoolExpr → Result Value Fault
   truth_in e = value_of f.limits in_memory (truth_view e) None f.memory
+
+  -- whether a range has an int, and a domain an index
+  abbrev pub contained_in : RangeExpr → IntExpr → Result Value Fault
+  contained_in r i = value_of f.limits in_memory (dotted (range_view r) (Contains nowhere nowhere (FirstExpr (int_view i) NoExprs) nowhere)) None f.memory
+
+  abbrev pub has_index_in : DomainExpr → IndexExpr → Result Value Fault
+  has_index_in d t = value_of f.limits in_memory (dotted (domain_view d) (Contains nowhere nowhere (index_exprs t) nowhere)) None f.memory
 
   -- a range; what its stride makes of its bounds; and a method of it without arguments, by the place of its name
   abbrev pub range_in : RangeExpr → Result Value Fault

@@ -104,6 +104,13 @@ abbrev mutual
   EachInTruths (Differs' p a q b) Holds = EachInTruths a Holds × EachInTruths b Holds
   EachInTruths (Compares c a b) Holds = EachInInts a.now Holds × EachInInts b.now Holds
 
+-- of the two methods that are truth values, by their parts
+abbrev pub EachInContained : RangeExpr → IntExpr → (ℕ → Type 0) → Type 0
+EachInContained r i Holds = EachInRange r Holds × EachInInt i Holds
+
+abbrev pub EachInHasIndex : DomainExpr → IndexExpr → (ℕ → Type 0) → Type 0
+EachInHasIndex d t Holds = EachInDomain d Holds × EachInIndex t Holds
+
 -- a gate may refuse some entry, and it isn't so that it refuses none of the reductions
 abbrev pub MayRefuseReduction : (ℕ → ℕ → Type 0) → Framed → ((ℕ → Type 0) → Type 0) → Type 0
 MayRefuseReduction may f each =

@@ -7,8 +7,9 @@ ghost use Rattle.dpl_language.specs.Tree.{Size, First, Last, Low, High};
 ghost use Rattle.dpl_lowered.specs.Shapes.{nowhere};
 ghost use Rattle.dpl_frame.specs.Faults.{Tells, as_range};
 ghost use Rattle.dpl_values.specs.Bounds.{bounds_of};
-ghost use Rattle.dpl_values.specs.Reductions.{MayRefuseReduction, EachInInt, EachInTruth, EachInRange, EachInStride, EachInRanges, EachInIndex, EachInDomain};
-ghost use Rattle.dpl_values.specs.Meanings.{int_in, truth_in, range_in, strided_in, domain_in, index_in, element_in, literal_in, sliced_in, range_end, domain_size};
+ghost use Rattle.dpl_values.specs.Reductions.{MayRefuseReduction, EachInInt, EachInTruth, EachInContained, EachInHasIndex};
+ghost use Rattle.dpl_values.specs.Reductions.{EachInRange, EachInStride, EachInRanges, EachInIndex, EachInDomain};
+ghost use Rattle.dpl_values.specs.Meanings.{int_in, truth_in, contained_in, has_index_in, range_in, strided_in, domain_in, index_in, element_in, literal_in, sliced_in, range_end, domain_size};
 
 use crate::comparison::holds;
 use crate::domain::{found, sized, small};
@@ -458,6 +459,44 @@ pub(crate) fn range_value<G: Team>(
     }
 }
 
+// The methods that are truth values are functions of their own too, so that a comparison has no place for ranges and domains in its frame.
+
+// `contains` of a range
+#[inline(never)]
+fn contained<G: Team>(
+    r: &RangeExpr<'_>,
+    i: &IntExpr<'_>,
+    frame: &Frame<G::Kept>,
+    gate: &G,
+    turn: &mut Turn,
+) -> Result<Truth, Alarm>
+    requires ready { G.is_ready gate.now }
+    ensures { Tells (MayRefuseReduction (G.may_refuse gate.now) frame.now (EachInContained r.now i.now)) TruthValue turn.new result
+        (contained_in frame.now r.now i.now) }
+{
+    let range = range_value(r, frame, gate, turn)?;
+    let i = operand(i, frame, gate, turn)?;
+    Ok(Truth::new(contains(range, i)))
+}
+
+// `contains` of a domain
+#[inline(never)]
+fn has_index<G: Team>(
+    d: &DomainExpr<'_>,
+    t: &IndexExpr<'_>,
+    frame: &Frame<G::Kept>,
+    gate: &G,
+    turn: &mut Turn,
+) -> Result<Truth, Alarm>
+    requires ready { G.is_ready gate.now }
+    ensures { Tells (MayRefuseReduction (G.may_refuse gate.now) frame.now (EachInHasIndex d.now t.now)) TruthValue turn.new result
+        (has_index_in frame.now d.now t.now) }
+{
+    let domain = domain_value(d, frame, gate, turn)?;
+    let index = index_value(t, frame, gate, turn)?;
+    Ok(Truth::new(domain.contains(index)))
+}
+
 /// The value of a truth value. `&&` after false and `||` after true don't look at their right side.
 ///
 /// # Errors
@@ -505,16 +544,8 @@ pub(crate) fn truth_value<G: Team>(
             let right = operand(b, frame, gate, turn)?;
             Ok(Truth::new(holds(*comparison, left, right)))
         }
-        BoolExpr::Contains(r, i) => {
-            let range = range_value(r, frame, gate, turn)?;
-            let i = operand(i, frame, gate, turn)?;
-            Ok(Truth::new(contains(range, i)))
-        }
-        BoolExpr::HasIndex(d, t) => {
-            let domain = domain_value(d, frame, gate, turn)?;
-            let index = index_value(t, frame, gate, turn)?;
-            Ok(Truth::new(domain.contains(index)))
-        }
+        BoolExpr::Contains(r, i) => contained(r, i, frame, gate, turn),
+        BoolExpr::HasIndex(d, t) => has_index(d, t, frame, gate, turn),
         BoolExpr::Element(slot, t, at) => Ok(Truth::new(
             element(*slot, t, at, frame, gate, turn)? != 0,
         )),

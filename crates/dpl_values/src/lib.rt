@@ -8,6 +8,7 @@
 pub mod budget;
 mod by_workers;
 mod comparison;
+mod direct;
 pub mod domain;
 mod expression;
 pub mod fold;
@@ -19,6 +20,7 @@ mod team;
 mod values;
 
 pub use by_workers::{reduced_int_by_workers, reduced_truth_by_workers};
+pub use direct::{direct_int, direct_truth};
 pub use expression::coordinate_value;
 pub use promoted::{int_domain, truth_domain};
 pub use root::{from_least, named};

@@ -9,6 +9,7 @@ ghost use Rattle.dpl_values.specs.Elements.{sized_or};
 ghost use Rattle.dpl_values.specs.Reductions.{MayRefuseReduction, EachInInt, EachInTruth, EachInRange, EachInRanges, EachInIndex, EachInDomain, EachInInts, EachInTruths};
 ghost use Rattle.dpl_values.specs.Meanings.{int_in, truth_in, range_in, domain_in, index_in, literal_in, int_at, truth_at};
 
+use crate::direct::direct_truth;
 use crate::expression::operand;
 use crate::team::Team;
 use crate::{expression, promoted};
@@ -37,11 +38,9 @@ pub fn int_value<G: Team>(e: &IntExpr<'_>, frame: &Frame<G::Kept>, gate: &G) -> 
     }
 }
 
-/// The value of a truth value. `&&` after false and `||` after true don't look at their right side.
-///
-/// # Errors
-/// The fault of an operand.
-pub fn truth_value<G: Team>(
+// A truth value by a walk.
+#[inline(never)]
+fn walked_truth<G: Team>(
     e: &BoolExpr<'_>,
     frame: &Frame<G::Kept>,
     gate: &G,
@@ -53,6 +52,25 @@ pub fn truth_value<G: Team>(
     match expression::truth_value(e, frame, gate, &mut turn) {
         Ok(value) => Ok(value),
         Err(alarm) => Err(RunStop::of(alarm, &turn)),
+    }
+}
+
+/// The value of a truth value. `&&` after false and `||` after true don't look at their right side.
+///
+/// # Errors
+/// The fault of an operand.
+#[inline(always)]
+pub fn truth_value<G: Team>(
+    e: &BoolExpr<'_>,
+    frame: &Frame<G::Kept>,
+    gate: &G,
+) -> Result<Truth, RunStop>
+    requires ready { G.is_ready gate.now }
+    ensures { Gives (MayRefuseReduction (G.may_refuse gate.now) frame.now (EachInTruth e.now)) TruthValue result (truth_in frame.now e.now) }
+{
+    match direct_truth(e, frame) {
+        Some(truth) => Ok(Truth::new(truth)),
+        None => walked_truth(e, frame, gate),
     }
 }
 

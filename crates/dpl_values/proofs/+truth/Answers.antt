@@ -1,82 +1,39 @@
--- Whether a range has a member, and a domain an index, is by the values of both, and a scalar has at an index the value that it
--- has without one; a reduction is the fold of the items at all indices. All else the prover finds by itself.
+-- A scalar has at an index the value that it has without one, and a reduction is the fold of the items at all indices. All else the prover
+-- finds by itself.
 use Rattle.std.proofs.Common.{ℕ, rules, ⊎_elim, None, Some, Ok, Err, refl, sym, subst, ap, ◌∙◌}
 use Rattle.std.proofs.lemmas.Result.{err_from_is_err_and}
 use Rattle.std.specs.Option.{option_map}
 use Rattle.dpl_map.specs.Maps.{owner}
 use Rattle.dpl_language.specs.Values.{Index, Int, Truth}
-use Rattle.dpl_language.specs.Ranges.{contains_index}
 use Rattle.dpl_language.specs.Outcome.{with_ok}
 use Rattle.dpl_language.specs.Expressions.{value_of, reduction, fold_over}
 use Rattle.dpl_lowered.specs.LoweredExpressions.{EachTurn}
 use Rattle.dpl_memory.specs.Memory.{array_at, in_memory}
-use Rattle.dpl_nodes.specs.Typed.{int_view, truth_view, index_exprs, promoted_truth, truth_fold_view}
+use Rattle.dpl_nodes.specs.declared.tree.BoolExpr.{BoolExpr}
+use Rattle.dpl_nodes.specs.Typed.{truth_view, promoted_truth, truth_fold_view}
 use Rattle.dpl_nodes.proofs.Promotions.{truth_view-at}
-use Rattle.dpl_contents.specs.Range.{range_word}
 use Rattle.dpl_frame.specs.Frames.{owned_by}
 use Rattle.dpl_frame.specs.Faults.{Tells}
 use Rattle.dpl_loop.specs.Entries.{MayRefuse}
 use Rattle.dpl_loop.proofs.Folding.{with_ok-ends, tells-as}
 use Rattle.dpl_values.specs.Elements.{within_at}
 use Rattle.dpl_values.specs.Reducing.{first_of_truths}
-use Rattle.dpl_values.specs.Reductions.{MayRefuseReduction, OfSlot, EachInInt, EachInTruth, EachInRange, EachInIndex, EachInTruths}
+use Rattle.dpl_values.specs.Reductions.{MayRefuseReduction, OfSlot, EachInTruth, EachInTruths}
+use Rattle.dpl_values.specs.Meanings.{truth_in}
 use Rattle.dpl_values.proofs.First.{truths_whole}
 use Rattle.dpl_values.proofs.Folds.{reduction-within}
 use Rattle.dpl_values.proofs.Telling.{refused-within}
-use Rattle.dpl_values.proofs.Views.{method_ends, containing, contains_ends, contains_answer, domain_contains}
 use Rattle.dpl_values.proofs.+truth.Goals as goal
 
-pub expression::truth_value-returns-in_err-range-in-Contains : goal.expression::truth_value-returns-in_err-range-in-Contains
-expression::truth_value-returns-in_err-range-in-Contains g t c =
-    let limits = c.args.frame.now.limits in
-    let w = c.args.frame.now.memory in
+pub expression::truth_value-returns-in-Contains : goal.expression::truth_value-returns-in-Contains
+expression::truth_value-returns-in-Contains g t c =
     let may = λ (each : (ℕ → Type 0) → Type 0). MayRefuseReduction (g.G.Gate.may_refuse c.args.gate.now) c.args.frame.now each in
-    let wider = refused-within (g.G.Gate.may_refuse c.args.gate.now) c.args.frame.now in
-    let p = err_from_is_err_and c.from_residual-in_err-range-in-Contains.result c.from_residual-in_err-range-in-Contains.ensures.1 in
-    rw (p.1, p.2)
-    (subst (λ e. Tells (may (EachInTruth e)) Truth c.range_value.new.turn (Err c.in_err-range-in-Contains.field-0.0) (value_of limits in_memory (truth_view e) None w)) (sym c.in-Contains.is)
-    (method_ends limits w (may (EachInRange c.in-Contains.r.now)) _ (wider (EachInRange c.in-Contains.r.now) (λ Holds. EachInRange c.in-Contains.r.now Holds × EachInInt c.in-Contains.i.now Holds) (λ Holds all. all.0)) Truth c.range_value.new.turn c.in_err-range-in-Contains.field-0.0 c.in-Contains.r.now (containing (int_view c.in-Contains.i.now)) c.in_err-range-in-Contains.ensures))
+    subst (λ (e : BoolExpr). Tells (may (EachInTruth e)) Truth c.contained.new.turn c.contained.result (truth_in c.args.frame.now e)) (sym c.in-Contains.is) c.contained.ensures
 
-pub expression::truth_value-returns-in_err-i-in-Contains : goal.expression::truth_value-returns-in_err-i-in-Contains
-expression::truth_value-returns-in_err-i-in-Contains g t c =
-    let limits = c.args.frame.now.limits in
-    let w = c.args.frame.now.memory in
+pub expression::truth_value-returns-in-HasIndex : goal.expression::truth_value-returns-in-HasIndex
+expression::truth_value-returns-in-HasIndex g t c =
     let may = λ (each : (ℕ → Type 0) → Type 0). MayRefuseReduction (g.G.Gate.may_refuse c.args.gate.now) c.args.frame.now each in
-    let wider = refused-within (g.G.Gate.may_refuse c.args.gate.now) c.args.frame.now in
-    let p = err_from_is_err_and c.from_residual-in_err-i-in-Contains.result c.from_residual-in_err-i-in-Contains.ensures.1 in
-    rw (p.1, p.2)
-    (subst (λ e. Tells (may (EachInTruth e)) Truth c.operand-in-Contains.new.turn (Err c.in_err-i-in-Contains.field-0.0) (value_of limits in_memory (truth_view e) None w)) (sym c.in-Contains.is)
-    (contains_ends limits w (may (EachInInt c.in-Contains.i.now)) _ (wider (EachInInt c.in-Contains.i.now) (λ Holds. EachInRange c.in-Contains.r.now Holds × EachInInt c.in-Contains.i.now Holds) (λ Holds all. all.1)) Int Truth c.operand-in-Contains.new.turn c.in_err-i-in-Contains.field-0.0 c.in-Contains.r.now (int_view c.in-Contains.i.now) (range_word c.in_ok-range-in-Contains.range)
-    c.in_ok-range-in-Contains.ensures c.in_err-i-in-Contains.ensures))
-
-pub expression::truth_value-returns-in_ok-i-in-Contains : goal.expression::truth_value-returns-in_ok-i-in-Contains
-expression::truth_value-returns-in_ok-i-in-Contains g t c =
-    let limits = c.args.frame.now.limits in
-    let w = c.args.frame.now.memory in
-    ap (λ e. value_of limits in_memory (truth_view e) None w) c.in-Contains.is
-    ∙ contains_answer limits w c.in-Contains.r.now (int_view c.in-Contains.i.now) (range_word c.in_ok-range-in-Contains.range) c.in_ok-i-in-Contains.i
-    c.in_ok-range-in-Contains.ensures c.in_ok-i-in-Contains.ensures ∙ search rules
-
-pub expression::truth_value-returns-in_err-index-in-HasIndex : goal.expression::truth_value-returns-in_err-index-in-HasIndex
-expression::truth_value-returns-in_err-index-in-HasIndex g t c =
-    let wider = refused-within (g.G.Gate.may_refuse c.args.gate.now) c.args.frame.now in
-    let limits = c.args.frame.now.limits in
-    let w = c.args.frame.now.memory in
-    let p = err_from_is_err_and c.from_residual-in_err-index-in-HasIndex.result c.from_residual-in_err-index-in-HasIndex.ensures.1 in
-    rw (p.1, p.2)
-    (with_ok-ends (MayRefuseReduction (g.G.Gate.may_refuse c.args.gate.now) c.args.frame.now (EachInIndex c.in-HasIndex.t.now)) _ (λ t. t) c.index_value.new.turn c.in_err-index-in-HasIndex.field-0.0 _ (λ t. Ok (Truth (contains_index c.in_ok-domain-in-HasIndex.domain t))) _ Truth
-    (wider (EachInIndex c.in-HasIndex.t.now) (EachInTruth c.args.e.now) (λ Holds all. (subst (λ e. EachInTruth e Holds) c.in-HasIndex.is all).1))
-    (ap (λ e. value_of limits in_memory (truth_view e) None w) c.in-HasIndex.is
-    ∙ domain_contains limits w c.in-HasIndex.d.now (index_exprs c.in-HasIndex.t.now) c.in_ok-domain-in-HasIndex.domain _ c.in_ok-domain-in-HasIndex.ensures refl)
-    c.in_err-index-in-HasIndex.ensures)
-
-pub expression::truth_value-returns-in_ok-index-in-HasIndex : goal.expression::truth_value-returns-in_ok-index-in-HasIndex
-expression::truth_value-returns-in_ok-index-in-HasIndex g t c =
-    let limits = c.args.frame.now.limits in
-    let w = c.args.frame.now.memory in
-    ap (λ e. value_of limits in_memory (truth_view e) None w) c.in-HasIndex.is
-    ∙ domain_contains limits w c.in-HasIndex.d.now (index_exprs c.in-HasIndex.t.now) c.in_ok-domain-in-HasIndex.domain _ c.in_ok-domain-in-HasIndex.ensures c.in_ok-index-in-HasIndex.ensures
-    ∙ search rules
+    subst (λ (e : BoolExpr). Tells (may (EachInTruth e)) Truth c.has_index.new.turn c.has_index.result (truth_in c.args.frame.now e)) (sym c.in-HasIndex.is) c.has_index.ensures
 
 pub promoted::promoted_truth_value-returns-in-Scalar : goal.promoted::promoted_truth_value-returns-in-Scalar
 promoted::promoted_truth_value-returns-in-Scalar g t c =
