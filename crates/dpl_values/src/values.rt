@@ -1,5 +1,5 @@
 // The values of ints, truth values, ranges, domains and indices over a frame, or the fault with the turn that it names; reductions ask a gate.
-// Each is the walk of its expression, for which a place for the turn stands ready.
+// A truth value is first looked for directly. All else is the walk of its expression, for which a place for the turn stands ready.
 
 ghost use Rattle.std.specs.Prelude.{◌≡◌, Ok};
 ghost use Rattle.dpl_language.specs.Values.{Int, Truth as TruthValue, Domain as DomainValue};

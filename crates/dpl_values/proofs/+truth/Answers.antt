@@ -1,10 +1,10 @@
 -- A scalar has at an index the value that it has without one, and a reduction is the fold of the items at all indices. All else the prover
 -- finds by itself.
-use Rattle.std.proofs.Common.{ℕ, rules, ⊎_elim, None, Some, Ok, Err, refl, sym, subst, ap, ◌∙◌}
+use Rattle.std.proofs.Common.{ℕ, rules, ⊎_elim, None, Some, Ok, refl, sym, subst, ap, ◌∙◌}
 use Rattle.std.proofs.lemmas.Result.{err_from_is_err_and}
 use Rattle.std.specs.Option.{option_map}
 use Rattle.dpl_map.specs.Maps.{owner}
-use Rattle.dpl_language.specs.Values.{Index, Int, Truth}
+use Rattle.dpl_language.specs.Values.{Index, Truth}
 use Rattle.dpl_language.specs.Outcome.{with_ok}
 use Rattle.dpl_language.specs.Expressions.{value_of, reduction, fold_over}
 use Rattle.dpl_lowered.specs.LoweredExpressions.{EachTurn}

@@ -1,6 +1,6 @@
 -- Whether a range has an int is by the values of both.
 -- These are the answers to the goals of `contained`.
-use Rattle.std.proofs.Common.{ℕ, rules, Err, ◌∙◌}
+use Rattle.std.proofs.Common.{ℕ, rules, ◌∙◌}
 use Rattle.std.proofs.lemmas.Result.{err_from_is_err_and}
 use Rattle.dpl_language.specs.Values.{Int, Truth}
 use Rattle.dpl_nodes.specs.Typed.{int_view}
