@@ -28,7 +28,7 @@ use Rattle.dpl_lowered.specs.LoweredStatements.{default_tree, mapped_initial, wr
 use Rattle.dpl_lowered.specs.LoweredExpressions.{Times, Once, lowered_items}
 use Rattle.dpl_words.specs.Words.{LeafKind, IntLeaf, TruthLeaf}
 use Rattle.dpl_memory.specs.Memory.{VariableKind, PlainKind, DomainKind, TupleKind, CellKind, ArrayKind, Variable, variable, known_variable}
-use Rattle.dpl_memory.specs.Resolved.{Bound, Seen, Start, text_of, variable_of, resolving, MayHold, IsUnused, IsNew, Declares, MayDeclare, Suits, Spans}
+use Rattle.dpl_memory.specs.Resolved.{Bound, Seen, Start, variable_of, resolving, MayHold, IsUnused, IsNew, Declares, MayDeclare, Suits, Spans}
 use Rattle.dpl_nodes.specs.declared.step.Step.{Step}
 use Rattle.dpl_nodes.specs.declared.placing.Placing.{Placing}
 use Rattle.dpl_nodes.specs.declared.placing.Placing.TheVariants.{Derived}
@@ -58,27 +58,25 @@ use Rattle.dpl_planner.specs.Plans.{seen_of, intents_in, AreOpen, IsOneScope, Pl
 use Rattle.dpl_planner.proofs.Scoped.{open-known, plain-add, new-no_array, single-type}
 use Rattle.dpl_planner.proofs.Owed.{one-add, given-before}
 use Rattle.dpl_planner.proofs.Items.{side-node, item-suited, side-fits, items-fit}
-use Rattle.dpl_planner.proofs.Mapped.{mapped-back, mapped_item-back, created-back, maps-fit}
+use Rattle.dpl_planner.proofs.Mapped.{maps-fit}
 use Rattle.dpl_planner.proofs.Placed.{placed-type, placed-map, untyped-type, init-placed, typed-type, typed-placed, empty-typed}
 
 -- ---- TYPES
 module _ (ss : Scopes) where
   typed-plain : (t : Option (TypedTree Text)) (k : WrittenKind) → IsWrittenType (type_of t) k → IsPlainTyped ss t
-  typed-plain None k h = record { spelled = refl; untold = refl; sort = refl; fits_here = λ start g. tt }
+  typed-plain None k h = record { untold = refl; sort = refl; fits_here = λ start g. tt }
   typed-plain (Some t) k h = by_type t.colon t.type k h
     where
       by_type : (colon : Place) (y : TypeTree Text) (k : WrittenKind) → IsWrittenType (Some y) k → IsPlainTyped ss (Some (record { colon = colon; type = y }))
-      by_type colon (ScalarType at l) k h = record { spelled = refl; untold = refl; sort = refl; fits_here = λ start g. tt }
+      by_type colon (ScalarType at l) k h = record { untold = refl; sort = refl; fits_here = λ start g. tt }
       by_type colon (SyncType at kind_at l) k h = absurd h
       by_type colon (DomainType d) kinds.Untyped h = absurd h
       by_type colon (DomainType d) (kinds.Scalar k) h = absurd h
-      by_type colon (DomainType d) (kinds.Domain rank) h =
-          record { spelled = ap (λ m. Some (record { colon = colon; type = DomainType (record d { mapped = m }) })) (mapped-back ss d.mapped); untold = refl; sort = refl; fits_here = λ start g. tt }
+      by_type colon (DomainType d) (kinds.Domain rank) h = record { untold = refl; sort = refl; fits_here = λ start g. tt }
       by_type colon (ArrayType a) k h = absurd h
 
   -- ---- INITIAL VALUES that are written: an item, mapped or not, and a created domain
   record IsWritten (init : InitTree Text) (declared : ValueType) (value : Typed) : Type 0 where
-    text : renamed_init text_of (renamed_init (bound_in ss) init) ≡ init
     node : lowered_init known_variable (renamed_init variable_of (renamed_init (bound_in ss) init)) ≡ typed_item Once value
     fits : (start : Start) (is : List (Bound × Op)) → AreKnownScopes ss → fits_init (resolving start) (fits_side (resolving start)) (renamed_init (bound_in ss) init) (seen_of ss is)
     suits : (start : Start) (is : List (Bound × Op)) (x : Bound) → AreKnownScopes ss → is_promoted (kind_of value) ≡ false → x.variable.kind ≡ kind_of value → x.shape ≡ shape_of declared
@@ -86,7 +84,6 @@ module _ (ss : Scopes) where
 
   item-written : (item : ItemTree Text) (mapped : Option (MappedTree Text)) (declared : ValueType) (value : Typed) → IsGivenInit ss (ItemInit item mapped) declared value → IsWritten (ItemInit item mapped) declared value
   item-written item mapped declared value is = record {
-    text = mapped_item-back ss item mapped;
     node = side-node ss item value is.0 Once;
     fits = λ start intents known. side-fits ss item value is.0 start intents known;
     suits = λ start intents x known once kind shape typed.
@@ -97,7 +94,6 @@ module _ (ss : Scopes) where
 
   created-written : (c : CreateTree Text) (declared : ValueType) (value : Typed) → IsGivenInit ss (CreateInit c) declared value → IsWritten (CreateInit c) declared value
   created-written c declared value is = record {
-    text = created-back ss c;
     node = ap (λ is. One (DomainLiteral c.from (lowered_items known_variable is) nowhere)) (renamed_items-twice variable_of (bound_in ss) c.items) ∙ sym is.0.node;
     fits = λ start intents known. items-fit ss c.items known is.0.found start intents;
     suits = λ start intents x known once kind shape typed.
@@ -128,7 +124,6 @@ module _ (ss : Scopes) where
     written-initial : (t : Option (TypedTree Text)) (k : WrittenKind) → IsWrittenType (type_of t) k → IsInitial ss t written declared (beginning.Value value)
     written-initial None k h = record {
       type = typed-plain None k h;
-      text = ap (λ i. Some (record { equals = equals; init = i })) is.text;
       typed = plain-typed;
       node = plain-node;
       initial = is.fits;
@@ -139,7 +134,6 @@ module _ (ss : Scopes) where
         by_type : (colon : Place) (y : TypeTree Text) (k : WrittenKind) → IsWrittenType (Some y) k → IsInitial ss (Some (record { colon = colon; type = y })) written declared (beginning.Value value)
         by_type colon (ScalarType at l) k h = record {
           type = typed-plain (Some (record { colon = colon; type = ScalarType at l })) k h;
-          text = ap (λ i. Some (record { equals = equals; init = i })) is.text;
           typed = plain-typed;
           node = plain-node;
           initial = is.fits;
@@ -148,7 +142,6 @@ module _ (ss : Scopes) where
         by_type colon (SyncType at kind_at l) k h = absurd h
         by_type colon (DomainType d) k h = record {
           type = typed-plain (Some (record { colon = colon; type = DomainType d })) k h;
-          text = ap (λ i. Some (record { equals = equals; init = i })) is.text;
           typed = λ p placing beside. ap (option_map written_type) (typed-type ss d.mapped (record { equals = equals; init = init }) p placing ∙ sym (placed-type value p beside));
           node = λ p placing beside.
               ap (λ i. Some (mapped_initial nowhere i (map_by known_variable (option_map (renamed_mapped variable_of) (option_map (renamed_mapped (bound_in ss)) d.mapped)) leaf))) is.node
@@ -196,7 +189,6 @@ default-initial ss (Some t) k declared b h is = by_type t.colon t.type k b h is
     by_type colon (ScalarType at l) kinds.Untyped b h is = absurd h
     by_type colon (ScalarType at l) (kinds.Scalar k) (beginning.Value value) h is = record {
       type = typed-plain ss (Some (record { colon = colon; type = ScalarType at l })) (kinds.Scalar k) h;
-      text = refl;
       typed = λ p placing beside. ap (option_map written_type) (sym (placed-type value p beside ∙ ap placed_type placing));
       node = λ p placing beside.
           ap (λ i. Some (written_initial nowhere i)) (ap (λ j. One (default_tree j)) h ∙ sym is.0)
@@ -213,7 +205,6 @@ default-initial ss (Some t) k declared b h is = by_type t.colon t.type k b h is
     by_type colon (DomainType d) (kinds.Domain rank) (beginning.Value value) h is = absurd is
     by_type colon (DomainType d) (kinds.Domain rank) (beginning.Empty other) h is = record {
       type = typed-plain ss (Some (record { colon = colon; type = DomainType d })) (kinds.Domain rank) h;
-      text = refl;
       typed = λ p placing beside.
           ap (λ n. Some (written_type (ranked_type n (option_map (lowered_mapped known_variable) (option_map (renamed_mapped variable_of) (option_map (renamed_mapped (bound_in ss)) d.mapped)))))) (h ∙ ap dimensions (sym is))
           ∙ ap (λ m. Some (written_type (ranked_type (dimensions other) m))) (empty-typed ss d.mapped p placing);
@@ -323,8 +314,6 @@ module _ (a : Plan) (d : DeclareTree Text) (made : DeclaredNode) (t : TypeNode) 
           slots = more;
           intents = ap (λ v. v.items) intents;
         };
-        text = ap (λ y. Declare (record { config = d.config; at = d.at; constant = d.constant; name = d.name; typed = y; initial = option_map (renamed_initial text_of) (bound_initial ss d.initial); semicolon = d.semicolon })) is.type.spelled
-            ∙ ap (λ i. Declare (record { config = d.config; at = d.at; constant = d.constant; name = d.name; typed = d.typed; initial = i; semicolon = d.semicolon })) is.text;
         node = ap (λ told. lowered_as d told x.variable (option_map written_type (declared_type known_variable (type_of typed_leaf) initial_leaf)) (declared_initial known_variable (type_of typed_leaf) initial_leaf)) is.type.untold
             ∙ ap (λ y. lowered_as d false x.variable y (declared_initial known_variable (type_of typed_leaf) initial_leaf)) (is.typed p placing beside)
             ∙ ap (lowered_as d false x.variable (begun_type begun p)) (is.node p placing beside)
@@ -356,7 +345,6 @@ module _ (a : Plan) (d : DeclareTree Text) (made : DeclaredNode) (t : TypeNode) 
 pub inside-plans : (a b : Plan) (d : DeclareTree Text) (s : Step) → d.config ≡ None → PlansDeclare a b d s → PlansStmt a b (Declare d) s
 inside-plans a b d s none p = record {
   goes = p.goes;
-  text = p.text;
   node = p.node;
   resolves = λ start h le. p.resolves start h le (subst (λ c. IsOwedBy c start (bound_new a.scopes (declared_by a.scopes d))) (sym none) tt);
 }

@@ -69,13 +69,12 @@ given-owed start ss d leaf given = by d.config refl
 pub declare-top : (a b : Plan) (d : DeclareTree Text) (s : Step) → ((at : Place) → d.config ≡ Some at → IsOfLeaf (declared_by a.scopes d)) → PlansDeclare a b d s → PlansTop a b (Declare d) s
 declare-top a b d s leaf p = record {
   goes = p.goes;
-  text = p.text;
   node = p.node;
   resolves = λ start h le given. p.resolves start h le (given-owed start a.scopes d leaf (subst (AreGiven start) p.goes.scopes given));
 }
 
 pub stmt-top : (a b : Plan) (t : StmtTree Text) (s : Step) → PlansStmt a b t s → PlansTop a b t s
-stmt-top a b t s p = record { goes = p.goes; text = p.text; node = p.node; resolves = λ start h le given. p.resolves start h le }
+stmt-top a b t s p = record { goes = p.goes; node = p.node; resolves = λ start h le given. p.resolves start h le }
 
 pub declared-top : {E : Type 0} (r : Result Step E) (a b : Plan) (d : DeclareTree Text) → IfOk r (λ s. (at : Place) → d.config ≡ Some at → IsOfLeaf (declared_by a.scopes d)) → IfOk r (λ s. PlansDeclare a b d s)
     → IfOk r (λ s. PlansTop a b (Declare d) s)

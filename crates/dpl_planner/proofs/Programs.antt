@@ -3,14 +3,14 @@
 use Rattle.std.proofs.Common.{◌≡◌, ◌≤◌, List, [], map, sym, ap, ◌∙◌, subst}
 use Rattle.dpl_language.specs.Tree.{ProgramTree}
 use Rattle.dpl_language.specs.Names.{Text}
-use Rattle.dpl_agreement.specs.Renamed.{renamed_stmts, renamed_program}
+use Rattle.dpl_agreement.specs.Renamed.{renamed_program}
 use Rattle.dpl_agreement.specs.Scopes.{fits_all, after_all}
 use Rattle.dpl_rules.specs.Sights.{Scopes}
 use Rattle.dpl_rules.specs.Breaches.{top}
 use Rattle.dpl_rules.specs.Sound.{behind_all}
 use Rattle.dpl_lowered.specs.LoweredStatements.{lowered_program}
 use Rattle.dpl_memory.specs.Memory.{known_variable}
-use Rattle.dpl_memory.specs.Resolved.{Start, text_of, variable_of, first_seen, resolving}
+use Rattle.dpl_memory.specs.Resolved.{Start, variable_of, first_seen, resolving}
 use Rattle.dpl_nodes.specs.declared.step.Step.{Step}
 use Rattle.dpl_nodes.specs.Steps.{steps_of}
 use Rattle.dpl_typer.specs.Sights.{sight_of, AreKnownScopes}
@@ -24,7 +24,7 @@ use Rattle.dpl_planner.proofs.Scoped.{after-stmts, open-known}
 module _ (a b : Plan) (t : ProgramTree Text) (steps : List Step) (begun : a.scopes ≡ top) (none : a.intents.items ≡ []) (p : PlansTops a b t.stmts steps) where
   abbrev At : Scopes → List Reducing → Type 0
   At ss is =
-      Stands a b (behind_all ss t.stmts) (renamed_stmts text_of (bound_stmts ss t.stmts) ≡ t.stmts) (stmts_leaves ss t.stmts ≡ steps_of steps)
+      Stands a b (behind_all ss t.stmts) (stmts_leaves ss t.stmts ≡ steps_of steps)
       (λ start. AreGiven start b.scopes → fits_all (resolving start) (bound_stmts ss t.stmts) (seen_of ss (map reducing_view is)))
 
   all : At top []
@@ -32,9 +32,6 @@ module _ (a b : Plan) (t : ProgramTree Text) (steps : List Step) (begun : a.scop
 
   first_plain : AreOpen a.scopes
   first_plain = subst AreOpen (sym begun) (tt, tt)
-
-  pub program-text : renamed_program text_of (bound_program t) ≡ t
-  program-text = ap (λ ts. record { uses = t.uses; stmts = ts; end = t.end }) all.text
 
   pub program-steps : (lowered_program known_variable (renamed_program variable_of (bound_program t))).stmts ≡ steps_of steps
   program-steps = all.node

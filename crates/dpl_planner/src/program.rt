@@ -9,7 +9,7 @@ ghost use Rattle.dpl_rules.specs.Breaches.{top};
 ghost use Rattle.dpl_rules.specs.Sound.{behind_all};
 ghost use Rattle.dpl_lowered.specs.LoweredStatements.{lowered_program};
 ghost use Rattle.dpl_memory.specs.Memory.{known_variable};
-ghost use Rattle.dpl_memory.specs.Resolved.{Start, text_of, variable_of, first_seen, resolving};
+ghost use Rattle.dpl_memory.specs.Resolved.{Start, variable_of, first_seen, resolving};
 ghost use Rattle.dpl_nodes.specs.Steps.{steps_of};
 ghost use Rattle.dpl_typer.specs.Sights.{sight_of, AreKnownScopes};
 ghost use Rattle.dpl_planner.specs.Bounds.{bound_program};
@@ -78,7 +78,6 @@ fn top_stmts<'s, 't>(plan: &mut Plan<'s, 't>, stmts: &[Stmt<'s>]) -> Result<&'t 
 /// variables; a name that isn't in sight, or is declared twice in one scope; a value of another kind or another shape than its place
 /// takes; a map beside what is no domain, or of which an argument is of a type that the rules refuse.
 pub fn plan<'s, 't>(arena: Arena<'t>, program: &Program<'s>) -> Result<Planned<'s, 't>, NoNode>
-    ensures text { IfOk result (λ p. renamed_program text_of (bound_program (program_view program.now)) ≡ program_view program.now) }
     ensures steps { IfOk result (λ p. (lowered_program known_variable (renamed_program variable_of (bound_program (program_view program.now)))).stmts
         ≡ steps_of p.steps.now) }
     ensures fits { IfOk result (λ p. (start : Start) → p.slots ≤ start.slots → AreGiven start p.scopes
