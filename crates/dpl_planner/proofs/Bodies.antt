@@ -16,9 +16,8 @@ use Rattle.dpl_nodes.specs.Steps.{listed, else_view, steps_of}
 use Rattle.dpl_nodes.proofs.Rows.{steps_view-row}
 use Rattle.dpl_planner.specs.declared.progress.Plan.{Plan}
 use Rattle.dpl_planner.specs.declared.progress.Reducing.{Reducing}
-use Rattle.dpl_planner.specs.Given.{AreGiven}
 use Rattle.dpl_planner.specs.Bounds.{bound_body, bound_else}
-use Rattle.dpl_planner.specs.Plans.{reducing_view, seen_of, AreOpen, IsOneScope, Goes, Stands, body_leaves, else_leaves, PlansStmt, PlansStmts, PlansOnly, PlansInner, PlansBody, PlansElse, behind_body}
+use Rattle.dpl_planner.specs.Plans.{reducing_view, seen_of, AreOpen, Goes, Stands, body_leaves, else_leaves, PlansStmt, PlansStmts, PlansOnly, PlansInner, PlansBody, PlansElse, behind_body}
 use Rattle.dpl_rules.proofs.Left.{leave_behind, leave_behind_all}
 use Rattle.dpl_planner.proofs.Scoped.{left-body, open-known}
 
@@ -27,8 +26,6 @@ pub goes-back : (a b : Plan) → b.scopes ≡ a.scopes → a.slots ≤ b.slots �
 goes-back a b same slots intents = record {
   scopes = same;
   plain = λ h. subst AreOpen (sym same) h;
-  one = λ h. subst IsOneScope (sym same) h;
-  given = λ h start g. subst (AreGiven start) same g;
   slots = slots;
   intents = intents;
 }
@@ -43,8 +40,6 @@ goes-then a b c x y f g =
     record {
       scopes = g.scopes;
       plain = λ h. g.plain (f.plain h);
-      one = λ h. g.one (f.one h);
-      given = λ h start owed. f.given h start (g.given (f.one h) start owed);
       slots = omega (arith, p, q);
       intents = g.intents ∙ f.intents;
     }

@@ -1,10 +1,8 @@
 -- A declaration: its name is in sight behind it with the next slot, and what it begins with is of its kind and its shape.
 -- A `config const` is set alike by its text and by its slot.
-use Rattle.std.proofs.Common.{◌≡◌, ℕ, ◌≤◌, ◌<◌, Bool, false, List, [], ◌∷◌, Option, Some, None, refl, sym, ap, ◌∙◌, subst, pos, arith}
+use Rattle.std.proofs.Common.{◌≡◌, ℕ, ◌≤◌, ◌<◌, Bool, false, List, Option, Some, None, refl, sym, ap, ◌∙◌, subst, pos, arith}
 use Rattle.std.specs.Prelude.{option_map}
-use Rattle.std.proofs.lemmas.Option.{none-some}
 use Rattle.dpl_syntax.specs.declared.place.Place.{Place}
-use Rattle.dpl_syntax.specs.declared.refusal.Breach.{Breach}
 use Rattle.dpl_language.specs.Tree.{Op, Kind, IntKind, BoolKind, Number, TruthWord, DomainLiteral, ItemTree, One, MappedTree, CreateTree, TypeTree, ScalarType, SyncType, DomainType, ArrayType, TypedTree, InitTree, ItemInit, CreateInit, InitialTree, DeclareTree, StmtTree, Declare}
 use Rattle.dpl_language.specs.Names.{Text}
 use Rattle.dpl_language.specs.Values.{Domain as DomainValue, default}
@@ -15,7 +13,7 @@ use Rattle.dpl_agreement.specs.Scopes.{PlainForm, fits_side, fits_init, fits_giv
 use Rattle.dpl_agreement.proofs.RenamedTwice.{renamed_items-twice}
 use Rattle.dpl_rules.specs.Types.{ValueType, Scalar, Domain}
 use Rattle.dpl_rules.specs.Sights.{Declared, Scopes, declared_here, add, origin_in}
-use Rattle.dpl_rules.specs.Declarations.{type_given, unless_refused, declaration_breaches, declared_by}
+use Rattle.dpl_rules.specs.Declarations.{type_given, declaration_breaches, declared_by}
 use Rattle.dpl_sound.proofs.Given.{some-same}
 use Rattle.dpl_sound.proofs.Initial.{empty_domain-type}
 use Rattle.dpl_scopes.specs.declared.value_type.ValueType.{ValueType as TypeNode}
@@ -52,11 +50,10 @@ use Rattle.dpl_planner.specs.declared.declaration.WrittenKind.TheVariants as kin
 use Rattle.dpl_planner.specs.declared.declaration.Beginning.{Beginning}
 use Rattle.dpl_planner.specs.declared.declaration.Beginning.TheVariants as beginning
 use Rattle.dpl_planner.specs.Bounds.{bound_new}
-use Rattle.dpl_planner.specs.Given.{IsOfLeaf, AreGiven}
+use Rattle.dpl_planner.specs.Given.{IsOfLeaf}
 use Rattle.dpl_planner.specs.Parts.{IsSingleKind, IsWrittenType, begun_kind, value_type, value_map, IsPlacedBeside, IsPlacedWith, begun_type, begun_as, IsPlainTyped, IsDefault, BeginsByDefault, IsGivenInit, IsInitial, IsOwedBy, bound_typed, bound_initial, PlansDeclare}
-use Rattle.dpl_planner.specs.Plans.{seen_of, intents_in, AreOpen, IsOneScope, PlansStmt}
-use Rattle.dpl_planner.proofs.Scoped.{open-known, plain-add, new-no_array, single-type}
-use Rattle.dpl_planner.proofs.Owed.{one-add, given-before}
+use Rattle.dpl_planner.specs.Plans.{seen_of, intents_in, AreOpen, PlansStmt}
+use Rattle.dpl_planner.proofs.Scoped.{open-known, plain-add, new-no_array, single-type, unless-both}
 use Rattle.dpl_planner.proofs.Items.{side-node, item-suited, side-fits, items-fit}
 use Rattle.dpl_planner.proofs.Mapped.{maps-fit}
 use Rattle.dpl_planner.proofs.Placed.{placed-type, placed-map, untyped-type, init-placed, typed-type, typed-placed, empty-typed}
@@ -254,11 +251,6 @@ given-fits : (start : Start) (config : Option Place) (x : Bound) (g : Seen) → 
 given-fits start None x g owed declares = tt
 given-fits start (Some at) x g owed declares = (owed, declares, refl)
 
--- a declaration that is refused declares no type
-pub unrefused : (bs : List Breach) (o : Option ValueType) (t : ValueType) → unless_refused bs o ≡ Some t → o ≡ Some t
-unrefused [] o t e = e
-unrefused (b ∷ bs) o t e = absurd (none-some t e)
-
 -- what is declared, and configured, is no array
 declared-single : (k : VariableKind) → IsSingleKind k → is_promoted k ≡ false
 declared-single (PlainKind k) h = refl
@@ -286,7 +278,7 @@ module _ (a : Plan) (d : DeclareTree Text) (made : DeclaredNode) (t : TypeNode) 
   is-typed = sym (ap (λ (y : Declared). y.type) same) ∙ ap of_type typed
 
   declared-given : type_given a.scopes (origin_in a.scopes d.name.name) (type_of d.typed) d.initial ≡ Some (type_view t)
-  declared-given = unrefused (declaration_breaches a.scopes d) (type_given a.scopes (origin_in a.scopes d.name.name) (type_of d.typed) d.initial) (type_view t) is-typed
+  declared-given = (unless-both (declaration_breaches a.scopes d) (type_given a.scopes (origin_in a.scopes d.name.name) (type_of d.typed) d.initial) (type_view t) is-typed).1
 
   pub declare-plans : (b : Plan) (begun : Beginning) (p : Placing) (slot : ℕ) (s : Step) → IsInitial a.scopes d.typed d.initial (type_view t) begun
       → IsPlacingOf a.scopes (type_of d.typed) d.initial p → IsPlacedWith begun p → AreFoundMaps a.scopes (type_of d.typed) d.initial → value_kind (type_view t) ≡ Some (begun_kind begun) → IsSingleKind (begun_kind begun)
@@ -309,8 +301,6 @@ module _ (a : Plan) (d : DeclareTree Text) (made : DeclaredNode) (t : TypeNode) 
         goes = record {
           scopes = to;
           plain = λ h. subst AreOpen (sym to) (plain-add new ss (begun_kind begun) of_kind (ap is_promoted_by is-typed ∙ single-type (type_view t) (begun_kind begun) kind single) refl alone h);
-          one = λ h. subst IsOneScope (sym to) (one-add new ss h);
-          given = λ h start g. given-before start new ss alone h (subst (AreGiven start) to g);
           slots = more;
           intents = ap (λ v. v.items) intents;
         };

@@ -27,7 +27,7 @@ use Rattle.dpl_scopes.specs.Slots.{next_slot_in}
 use Rattle.dpl_lowered.specs.Shapes.{nowhere, placed, hidden_item}
 use Rattle.dpl_lowered.specs.LoweredExpressions.{Once, EachTurn, lowered_item}
 use Rattle.dpl_lowered.specs.LoweredStatements.{written_initial, written_type, tells_name, unplaced_word, lowered_over, array_initial, declared_type, declared_initial}
-use Rattle.dpl_memory.specs.Memory.{VariableKind, ArrayKind, Variable, variable, known_variable}
+use Rattle.dpl_memory.specs.Memory.{ArrayKind, Variable, variable, known_variable}
 use Rattle.dpl_memory.specs.Resolved.{Bound, Seen, Shape, Start, variable_of, resolving, IsElement, MayHold, IsNew, IsWhole, OverResolves, SpansArray, Suits}
 use Rattle.dpl_nodes.specs.declared.tree.RangesExpr.{RangesExpr}
 use Rattle.dpl_nodes.specs.declared.step.DeclaredOver.{DeclaredOver}
@@ -49,14 +49,12 @@ use Rattle.dpl_typer.proofs.Overs.{over-resolves}
 use Rattle.dpl_runnable.specs.Runnable.{IsConfigOf, IsInitialOf, IsRunnableDeclare}
 use Rattle.dpl_planner.specs.declared.progress.Plan.{Plan}
 use Rattle.dpl_planner.specs.Bounds.{bound_new}
-use Rattle.dpl_planner.specs.Given.{AreGiven}
 use Rattle.dpl_typer.specs.Elaborated.{AreMany, HasNoDomain, ArePartsOf}
 use Rattle.dpl_planner.specs.Arrays.{between, IsOver, IsArrayInitial, HasElements, IsArrayKind}
 use Rattle.dpl_planner.specs.Elements.{IsValued}
 use Rattle.dpl_planner.specs.Parts.{IsItem, bound_typed, bound_initial, PlansDeclare}
-use Rattle.dpl_planner.specs.Plans.{seen_of, intents_in, AreOpen, IsOneScope}
-use Rattle.dpl_planner.proofs.Scoped.{open-known, plain-add, unless-both, array-typed}
-use Rattle.dpl_planner.proofs.Owed.{one-add, given-before}
+use Rattle.dpl_planner.specs.Plans.{seen_of, intents_in, AreOpen}
+use Rattle.dpl_planner.proofs.Scoped.{open-known, plain-add, unless-both, kind-typed, array-typed}
 use Rattle.dpl_planner.proofs.Items.{side-node, whole_side-fits, items-fit}
 use Rattle.dpl_planner.proofs.ChangedArrays.{given-suits}
 use Rattle.dpl_planner.proofs.Declared.{declared-same}
@@ -260,8 +258,6 @@ module _ (a : Plan) (d : DeclareTree Text) (arr : ArrayTypeTree Text) (typed : t
         goes = record {
           scopes = to;
           plain = λ h. subst AreOpen (sym to) (plain-add new ss (ArrayKind arr.kind) of_kind unpromoted refl alone h);
-          one = λ h. subst IsOneScope (sym to) (one-add new ss h);
-          given = λ h start g. given-before start new ss alone h (subst (AreGiven start) to g);
           slots = more;
           intents = ap (λ v. v.items) intents;
         };
@@ -281,20 +277,16 @@ module _ (ss : Scopes) (d : DeclareTree Text) (arr : ArrayTypeTree Text) (typed 
       subst (λ y. type_given ss (origin_in ss d.name.name) y d.initial ≡ Some t) typed
       (unless-both (declaration_breaches ss d) (type_given ss (origin_in ss d.name.name) (type_of d.typed) d.initial) t e).1
 
-  some-typed : (o : Option ValueType) (k : VariableKind) → kind_by o ≡ Some k → (t : ValueType) × (o ≡ Some t)
-  some-typed None k e = absurd (none-some k e)
-  some-typed (Some t) k e = (t, refl)
-
   -- it is of an array's kind, over a domain, and no `config`
   pub runnable-array : s.kind ≡ ArrayKind arr.kind
   runnable-array =
-      let (t, e) = some-typed (declared_by ss d).type s.kind s.declared in
+      let (t, e) = kind-typed (declared_by ss d).type s.kind s.declared in
       let (rank, strided, there, is) = array-typed ss (origin_in ss d.name.name) arr (domain_in over_found) t (runnable-given t e) in
       sym (kind_if-some (is_rank rank) (ArrayKind arr.kind) s.kind (ap value_kind is ∙ ap kind_by (sym e) ∙ s.declared)).1
 
   pub runnable-domain : HasNoDomain (item_parts ss arr.over) → ⊥
   runnable-domain h =
-      let (t, e) = some-typed (declared_by ss d).type s.kind s.declared in
+      let (t, e) = kind-typed (declared_by ss d).type s.kind s.declared in
       none-some t (sym (ap (λ o. over_domain ss (origin_in ss d.name.name) arr (domain_in o)) (h arr.from)) ∙ runnable-given t e)
 
   pub runnable-elements : HasElements ss arr.kind d.initial

@@ -44,13 +44,14 @@ IsOneScope [] = ⊥
 IsOneScope (s ∷ []) = Unit {0}
 IsOneScope (s ∷ t ∷ ss) = ⊥
 
--- Behind a part these are the scopes, no slot is taken back, and the reduce variables are as before. What the top level's
--- names are owed behind it, they are owed before it.
+-- What the command line owes its names: each `config const` is set alike by its text and by its slot.
+abbrev pub AreOwed : Start → Scopes → Type 0
+AreOwed start ss = IsOneScope ss × AreGiven start ss
+
+-- Behind a part these are the scopes, no slot is taken back, and the reduce variables are as before.
 pub record Goes (old new : Plan) (to : Scopes) : Type 0 where
   pub scopes : new.scopes ≡ to
   pub plain : AreOpen old.scopes → AreOpen new.scopes
-  pub one : IsOneScope old.scopes → IsOneScope new.scopes
-  pub given : IsOneScope old.scopes → (start : Start) → AreGiven start new.scopes → AreGiven start old.scopes
   pub slots : old.slots ≤ new.slots
   pub intents : new.intents.items ≡ old.intents.items
 
@@ -109,14 +110,13 @@ PlansElse old new o other =
     Stands old new old.scopes (else_leaves old.scopes o ≡ else_view other)
     (λ start. fits_else (resolving start) (bound_else old.scopes o) (seen_in old))
 
--- A statement of the top level, and all of them: each `config const` is set alike by its text and by its slot.
+-- A statement of the top level, and all of them: they fit where the command line gives what it owes the scopes behind them.
 abbrev pub PlansTop : Plan → Plan → StmtTree Text → Step → Type 0
 PlansTop old new t step =
     Stands old new (behind old.scopes t) (stmt_leaves old.scopes t ≡ step_view step)
-    (λ start. AreGiven start new.scopes → fits_stmt (resolving start) (bound_stmt old.scopes t) (seen_in old))
+    (λ start. AreOwed start new.scopes → fits_stmt (resolving start) (bound_stmt old.scopes t) (seen_in old))
 
 abbrev pub PlansTops : Plan → Plan → Stmts Text → List Step → Type 0
 PlansTops old new ts steps =
-    IsOneScope old.scopes
-    → Stands old new (behind_all old.scopes ts) (stmts_leaves old.scopes ts ≡ steps_of steps)
-    (λ start. AreGiven start new.scopes → fits_all (resolving start) (bound_stmts old.scopes ts) (seen_in old))
+    Stands old new (behind_all old.scopes ts) (stmts_leaves old.scopes ts ≡ steps_of steps)
+    (λ start. AreOwed start new.scopes → fits_all (resolving start) (bound_stmts old.scopes ts) (seen_in old))
