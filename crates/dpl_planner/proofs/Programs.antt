@@ -1,5 +1,5 @@
 -- A whole program: what is planned of its statements, from one scope without names, is the program.
--- Each clause on a program's plan is one of these.
+-- Each clause on a program's plan is one of these; what its end leaves in sight is a law of scopes.
 use Rattle.std.proofs.Common.{◌≡◌, ◌≤◌, List, [], map, sym, ap, ◌∙◌, subst}
 use Rattle.dpl_language.specs.Tree.{ProgramTree}
 use Rattle.dpl_language.specs.Names.{Text}

@@ -17,7 +17,7 @@ use Rattle.dpl_typer.specs.Sights.{bound_in}
 use Rattle.dpl_planner.specs.Bounds.{loop_variable, bound_declare, bound_target, bound_others, bound_variables, loop_type, bound_stmt, bound_body, bound_stmts, bound_else, bound_program}
 
 -- what is made of two parts that are alike is alike
-both : {A B C : Type 0} (make : A → B → C) {a c : A} {b d : B} → a ≡ c → b ≡ d → make a b ≡ make c d
+pub both : {A B C : Type 0} (make : A → B → C) {a c : A} {b d : B} → a ≡ c → b ≡ d → make a b ≡ make c d
 both make {a = a} {d = d} p q = ap (make a) q ∙ ap (λ x. make x d) p
 
 -- a part that may be there, and a list with commas, of which each part is changed and changed back, are as they were

@@ -36,13 +36,11 @@ use Rattle.dpl_planner.specs.declared.progress.Reducing.{Reducing}
 use Rattle.dpl_planner.specs.Bounds.{loop_variable, bound_variables, loop_type, bound_body}
 use Rattle.dpl_planner.specs.Parts.{IsItem, AreTurnKinds, AreFresh, over_typed, IsCondition, IsOpened}
 use Rattle.dpl_planner.specs.Plans.{reducing_view, seen_of, AreOpen, intents_in, seen_in, Stands, body_leaves, else_leaves, PlansStmt, PlansBody, PlansElse}
+use Rattle.dpl_planner.proofs.Spelled.{both}
 use Rattle.dpl_planner.proofs.Items.{item-node, item-fits, condition-node, condition-fits}
 use Rattle.dpl_planner.proofs.Opened.{turn-kind, variables-plain, variables-fit, inside-same, turns-suit}
 use Rattle.dpl_planner.proofs.Scoped.{open-known, IsOverNone, single-over}
 use Rattle.dpl_planner.proofs.Bodies.{goes-back, goes-nowhere, goes-then, goes-left, body-at, else-at, left}
-
-both : {A B C : Type 0} (make : A → B → C) {a c : A} {b d : B} → a ≡ c → b ≡ d → make a b ≡ make c d
-both make {a = a} {d = d} p q = ap (make a) q ∙ ap (λ x. make x d) p
 
 pub nothing-plans : (a : Plan) (at : Place) → PlansStmt a a (Nothing at) NothingStep
 nothing-plans a at = record { goes = goes-nowhere a; node = refl; resolves = λ start h le. tt }

@@ -1,4 +1,4 @@
--- The plan that the planner gives, from its clauses; and that the sets of a program without a refusal fit it.
+-- The plan that the planner gives, from its clauses and two laws of trees; and that the sets of a program without a refusal fit it.
 -- A `config const` in sight is a plain variable, and has a slot.
 use Rattle.std.proofs.Common.{◌≡◌, ℕ, ◌≤◌, List, [], Bool, true, false, Option, Some, None, is_some, refl, sym, ap, ◌∙◌, subst}
 use Rattle.std.proofs.Math.Nat.{le_refl}
