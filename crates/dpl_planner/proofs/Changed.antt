@@ -29,7 +29,7 @@ use Rattle.dpl_planner.specs.Bounds.{arrays_at, with_arrays, assigned_in}
 use Rattle.dpl_planner.specs.Parts.{IsItem, IsChangedKind, IsTakenIn, changed_to}
 use Rattle.dpl_planner.specs.Plans.{seen_of, intents_in, seen_in, PlansStmt}
 use Rattle.dpl_planner.proofs.Scoped.{open-known}
-use Rattle.dpl_planner.proofs.Items.{item-text, side-node, item-suited, whole_side-fits}
+use Rattle.dpl_planner.proofs.Items.{side-node, item-suited, whole_side-fits}
 use Rattle.dpl_planner.proofs.Bodies.{goes-nowhere}
 
 -- ---- what is assigned is no whole array
@@ -80,7 +80,6 @@ module _ (a : Plan) (x : Placed Text) (sign : AssignTree) (item : ItemTree Text)
       let lowered_right = renamed_item variable_of (renamed_item (bound_in ss) item) in
       record {
         goes = goes-nowhere a;
-        text = ap (λ i. Assigned (Whole x) sign i semicolon) (item-text ss item);
         node = ap (λ l. lowered_to x sign lowered_right (with_arrays ss l)) leaf
             ∙ ap (lowered_by ss x sign lowered_right k slot) (single-whole k single)
             ∙ ap (λ i. Assigned (Whole (placed (may_be_whole (known_kind k)) (record { at = x.at; name = with_arrays ss (variable k slot) }))) (record { at = kept (assign_divides sign.op) sign.at; op = sign.op; last = nowhere }) i nowhere) (side-node ss item t is Once)

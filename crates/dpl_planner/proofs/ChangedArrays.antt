@@ -6,7 +6,6 @@ use Rattle.dpl_syntax.specs.declared.place.Place.{Place}
 use Rattle.dpl_language.specs.Tree.{Placed, BracketPair, Op, Assign, Set, SetAdd, SetSubtract, SetMultiply, SetDivide, SetRemainder, SetReduce, AssignTree, Kind, IntKind, BoolKind, ExprTree, Exprs, ItemTree, One, Whole, Element, StmtTree, Assigned}
 use Rattle.dpl_language.specs.Names.{Text}
 use Rattle.dpl_agreement.specs.Renamed.{renamed_item, renamed_exprs}
-use Rattle.dpl_agreement.proofs.RenamedSame.{renamed_exprs-same}
 use Rattle.dpl_agreement.proofs.RenamedTwice.{renamed_exprs-twice}
 use Rattle.dpl_rules.specs.Types.{ValueType, Scalar, Range, Domain, Array, Promoted, Tuple, Locale, AllLocales, Cell, is_array}
 use Rattle.dpl_rules.specs.Sights.{Scopes}
@@ -14,7 +13,7 @@ use Rattle.dpl_scopes.specs.Slots.{slot_in}
 use Rattle.dpl_lowered.specs.LoweredExpressions.{Once, EachTurn, lowered_exprs}
 use Rattle.dpl_words.specs.Words.{LeafKind}
 use Rattle.dpl_memory.specs.Memory.{VariableKind, PlainKind, ArrayKind, Variable, variable, known_variable}
-use Rattle.dpl_memory.specs.Resolved.{Bound, Seen, Shape, text_of, variable_of, element_takes, kind_takes, IntentResolves, ArraysResolve, Suits, SuitsElement}
+use Rattle.dpl_memory.specs.Resolved.{Bound, Seen, Shape, variable_of, element_takes, kind_takes, IntentResolves, ArraysResolve, Suits, SuitsElement}
 use Rattle.dpl_nodes.specs.declared.step.ArrayName.{ArrayName}
 use Rattle.dpl_nodes.specs.declared.step.Step.{Step}
 use Rattle.dpl_nodes.specs.declared.tree.IndexExpr.{IndexExpr}
@@ -38,7 +37,7 @@ use Rattle.dpl_planner.specs.Parts.{IsItem}
 use Rattle.dpl_planner.specs.Elements.{whole_changed, element_changed, IsValued}
 use Rattle.dpl_planner.specs.Plans.{seen_of, intents_in, seen_in, PlansStmt}
 use Rattle.dpl_planner.proofs.Scoped.{open-known}
-use Rattle.dpl_planner.proofs.Items.{item-text, side-node, side-fits, whole_side-fits, exprs-fit}
+use Rattle.dpl_planner.proofs.Items.{side-node, side-fits, whole_side-fits, exprs-fit}
 use Rattle.dpl_planner.proofs.Bodies.{goes-nowhere}
 use Rattle.dpl_planner.proofs.Changed.{lowered_to, arrays-stand}
 
@@ -103,7 +102,6 @@ module _ (a : Plan) (x : Placed Text) (sign : AssignTree) (item : ItemTree Text)
       let lowered_right = renamed_item variable_of (renamed_item (bound_in ss) item) in
       record {
         goes = goes-nowhere a;
-        text = ap (λ i. Assigned (Whole x) sign i semicolon) (item-text ss item);
         node = ap (λ l. lowered_to x sign lowered_right (with_arrays ss l)) leaf
             ∙ ap (whole_changed (placed_leaf x.at (variable (ArrayKind k) n.slot)) sign.op sign.at) (side-node ss item t is EachTurn ∙ sym same)
             ∙ ap (λ at. whole_changed (placed_leaf at (variable (ArrayKind k) n.slot)) sign.op sign.at (One e)) (sym near)
@@ -139,8 +137,6 @@ module _ (a : Plan) (x : Placed Text) (shape : BracketPair) (from upto : Place) 
       let exprs = renamed_exprs variable_of (renamed_exprs (bound_in ss) es) in
       record {
         goes = goes-nowhere a;
-        text = ap (λ ys. Assigned (Element x shape from ys upto) sign (renamed_item text_of (renamed_item (bound_in ss) item)) semicolon) (renamed_exprs-twice text_of (bound_in ss) es ∙ renamed_exprs-same es)
-            ∙ ap (λ i. Assigned (Element x shape from es upto) sign i semicolon) (item-text ss item);
         node = ap (element_to (leaf_in ss x.name) (lowered_exprs known_variable exprs)) (side-node ss item t is Once)
             ∙ ap (λ ys. element_to (leaf_in ss x.name) ys right) (ap (lowered_exprs known_variable) (renamed_exprs-twice variable_of (bound_in ss) es) ∙ sym indexed.exprs)
             ∙ ap (λ l. element_to l (index_exprs index) right) leaf

@@ -1,10 +1,8 @@
 -- A declaration: its name is in sight behind it with the next slot, and what it begins with is of its kind and its shape.
 -- A `config const` is set alike by its text and by its slot.
-use Rattle.std.proofs.Common.{◌≡◌, ℕ, ◌≤◌, ◌<◌, Bool, false, List, [], ◌∷◌, Option, Some, None, refl, sym, ap, ◌∙◌, subst, pos, arith}
+use Rattle.std.proofs.Common.{◌≡◌, ℕ, ◌≤◌, ◌<◌, Bool, false, List, Option, Some, None, refl, sym, ap, ◌∙◌, subst, pos, arith}
 use Rattle.std.specs.Prelude.{option_map}
-use Rattle.std.proofs.lemmas.Option.{none-some}
 use Rattle.dpl_syntax.specs.declared.place.Place.{Place}
-use Rattle.dpl_syntax.specs.declared.refusal.Breach.{Breach}
 use Rattle.dpl_language.specs.Tree.{Op, Kind, IntKind, BoolKind, Number, TruthWord, DomainLiteral, ItemTree, One, MappedTree, CreateTree, TypeTree, ScalarType, SyncType, DomainType, ArrayType, TypedTree, InitTree, ItemInit, CreateInit, InitialTree, DeclareTree, StmtTree, Declare}
 use Rattle.dpl_language.specs.Names.{Text}
 use Rattle.dpl_language.specs.Values.{Domain as DomainValue, default}
@@ -15,7 +13,7 @@ use Rattle.dpl_agreement.specs.Scopes.{PlainForm, fits_side, fits_init, fits_giv
 use Rattle.dpl_agreement.proofs.RenamedTwice.{renamed_items-twice}
 use Rattle.dpl_rules.specs.Types.{ValueType, Scalar, Domain}
 use Rattle.dpl_rules.specs.Sights.{Declared, Scopes, declared_here, add, origin_in}
-use Rattle.dpl_rules.specs.Declarations.{type_given, unless_refused, declaration_breaches, declared_by}
+use Rattle.dpl_rules.specs.Declarations.{type_given, declaration_breaches, declared_by}
 use Rattle.dpl_sound.proofs.Given.{some-same}
 use Rattle.dpl_sound.proofs.Initial.{empty_domain-type}
 use Rattle.dpl_scopes.specs.declared.value_type.ValueType.{ValueType as TypeNode}
@@ -28,7 +26,7 @@ use Rattle.dpl_lowered.specs.LoweredStatements.{default_tree, mapped_initial, wr
 use Rattle.dpl_lowered.specs.LoweredExpressions.{Times, Once, lowered_items}
 use Rattle.dpl_words.specs.Words.{LeafKind, IntLeaf, TruthLeaf}
 use Rattle.dpl_memory.specs.Memory.{VariableKind, PlainKind, DomainKind, TupleKind, CellKind, ArrayKind, Variable, variable, known_variable}
-use Rattle.dpl_memory.specs.Resolved.{Bound, Seen, Start, text_of, variable_of, resolving, MayHold, IsUnused, IsNew, Declares, MayDeclare, Suits, Spans}
+use Rattle.dpl_memory.specs.Resolved.{Bound, Seen, Start, variable_of, resolving, MayHold, IsUnused, IsNew, Declares, MayDeclare, Suits, Spans}
 use Rattle.dpl_nodes.specs.declared.step.Step.{Step}
 use Rattle.dpl_nodes.specs.declared.placing.Placing.{Placing}
 use Rattle.dpl_nodes.specs.declared.placing.Placing.TheVariants.{Derived}
@@ -52,33 +50,30 @@ use Rattle.dpl_planner.specs.declared.declaration.WrittenKind.TheVariants as kin
 use Rattle.dpl_planner.specs.declared.declaration.Beginning.{Beginning}
 use Rattle.dpl_planner.specs.declared.declaration.Beginning.TheVariants as beginning
 use Rattle.dpl_planner.specs.Bounds.{bound_new}
-use Rattle.dpl_planner.specs.Given.{IsOfLeaf, AreGiven}
+use Rattle.dpl_planner.specs.Given.{IsOfLeaf}
 use Rattle.dpl_planner.specs.Parts.{IsSingleKind, IsWrittenType, begun_kind, value_type, value_map, IsPlacedBeside, IsPlacedWith, begun_type, begun_as, IsPlainTyped, IsDefault, BeginsByDefault, IsGivenInit, IsInitial, IsOwedBy, bound_typed, bound_initial, PlansDeclare}
-use Rattle.dpl_planner.specs.Plans.{seen_of, intents_in, AreOpen, IsOneScope, PlansStmt}
-use Rattle.dpl_planner.proofs.Scoped.{open-known, plain-add, new-no_array, single-type}
-use Rattle.dpl_planner.proofs.Owed.{one-add, given-before}
+use Rattle.dpl_planner.specs.Plans.{seen_of, intents_in, AreOpen, PlansStmt}
+use Rattle.dpl_planner.proofs.Scoped.{open-known, plain-add, new-no_array, single-type, unless-both}
 use Rattle.dpl_planner.proofs.Items.{side-node, item-suited, side-fits, items-fit}
-use Rattle.dpl_planner.proofs.Mapped.{mapped-back, mapped_item-back, created-back, maps-fit}
+use Rattle.dpl_planner.proofs.Mapped.{maps-fit}
 use Rattle.dpl_planner.proofs.Placed.{placed-type, placed-map, untyped-type, init-placed, typed-type, typed-placed, empty-typed}
 
 -- ---- TYPES
 module _ (ss : Scopes) where
   typed-plain : (t : Option (TypedTree Text)) (k : WrittenKind) → IsWrittenType (type_of t) k → IsPlainTyped ss t
-  typed-plain None k h = record { spelled = refl; untold = refl; sort = refl; fits_here = λ start g. tt }
+  typed-plain None k h = record { untold = refl; sort = refl; fits_here = λ start g. tt }
   typed-plain (Some t) k h = by_type t.colon t.type k h
     where
       by_type : (colon : Place) (y : TypeTree Text) (k : WrittenKind) → IsWrittenType (Some y) k → IsPlainTyped ss (Some (record { colon = colon; type = y }))
-      by_type colon (ScalarType at l) k h = record { spelled = refl; untold = refl; sort = refl; fits_here = λ start g. tt }
+      by_type colon (ScalarType at l) k h = record { untold = refl; sort = refl; fits_here = λ start g. tt }
       by_type colon (SyncType at kind_at l) k h = absurd h
       by_type colon (DomainType d) kinds.Untyped h = absurd h
       by_type colon (DomainType d) (kinds.Scalar k) h = absurd h
-      by_type colon (DomainType d) (kinds.Domain rank) h =
-          record { spelled = ap (λ m. Some (record { colon = colon; type = DomainType (record d { mapped = m }) })) (mapped-back ss d.mapped); untold = refl; sort = refl; fits_here = λ start g. tt }
+      by_type colon (DomainType d) (kinds.Domain rank) h = record { untold = refl; sort = refl; fits_here = λ start g. tt }
       by_type colon (ArrayType a) k h = absurd h
 
   -- ---- INITIAL VALUES that are written: an item, mapped or not, and a created domain
   record IsWritten (init : InitTree Text) (declared : ValueType) (value : Typed) : Type 0 where
-    text : renamed_init text_of (renamed_init (bound_in ss) init) ≡ init
     node : lowered_init known_variable (renamed_init variable_of (renamed_init (bound_in ss) init)) ≡ typed_item Once value
     fits : (start : Start) (is : List (Bound × Op)) → AreKnownScopes ss → fits_init (resolving start) (fits_side (resolving start)) (renamed_init (bound_in ss) init) (seen_of ss is)
     suits : (start : Start) (is : List (Bound × Op)) (x : Bound) → AreKnownScopes ss → is_promoted (kind_of value) ≡ false → x.variable.kind ≡ kind_of value → x.shape ≡ shape_of declared
@@ -86,7 +81,6 @@ module _ (ss : Scopes) where
 
   item-written : (item : ItemTree Text) (mapped : Option (MappedTree Text)) (declared : ValueType) (value : Typed) → IsGivenInit ss (ItemInit item mapped) declared value → IsWritten (ItemInit item mapped) declared value
   item-written item mapped declared value is = record {
-    text = mapped_item-back ss item mapped;
     node = side-node ss item value is.0 Once;
     fits = λ start intents known. side-fits ss item value is.0 start intents known;
     suits = λ start intents x known once kind shape typed.
@@ -97,7 +91,6 @@ module _ (ss : Scopes) where
 
   created-written : (c : CreateTree Text) (declared : ValueType) (value : Typed) → IsGivenInit ss (CreateInit c) declared value → IsWritten (CreateInit c) declared value
   created-written c declared value is = record {
-    text = created-back ss c;
     node = ap (λ is. One (DomainLiteral c.from (lowered_items known_variable is) nowhere)) (renamed_items-twice variable_of (bound_in ss) c.items) ∙ sym is.0.node;
     fits = λ start intents known. items-fit ss c.items known is.0.found start intents;
     suits = λ start intents x known once kind shape typed.
@@ -128,7 +121,6 @@ module _ (ss : Scopes) where
     written-initial : (t : Option (TypedTree Text)) (k : WrittenKind) → IsWrittenType (type_of t) k → IsInitial ss t written declared (beginning.Value value)
     written-initial None k h = record {
       type = typed-plain None k h;
-      text = ap (λ i. Some (record { equals = equals; init = i })) is.text;
       typed = plain-typed;
       node = plain-node;
       initial = is.fits;
@@ -139,7 +131,6 @@ module _ (ss : Scopes) where
         by_type : (colon : Place) (y : TypeTree Text) (k : WrittenKind) → IsWrittenType (Some y) k → IsInitial ss (Some (record { colon = colon; type = y })) written declared (beginning.Value value)
         by_type colon (ScalarType at l) k h = record {
           type = typed-plain (Some (record { colon = colon; type = ScalarType at l })) k h;
-          text = ap (λ i. Some (record { equals = equals; init = i })) is.text;
           typed = plain-typed;
           node = plain-node;
           initial = is.fits;
@@ -148,7 +139,6 @@ module _ (ss : Scopes) where
         by_type colon (SyncType at kind_at l) k h = absurd h
         by_type colon (DomainType d) k h = record {
           type = typed-plain (Some (record { colon = colon; type = DomainType d })) k h;
-          text = ap (λ i. Some (record { equals = equals; init = i })) is.text;
           typed = λ p placing beside. ap (option_map written_type) (typed-type ss d.mapped (record { equals = equals; init = init }) p placing ∙ sym (placed-type value p beside));
           node = λ p placing beside.
               ap (λ i. Some (mapped_initial nowhere i (map_by known_variable (option_map (renamed_mapped variable_of) (option_map (renamed_mapped (bound_in ss)) d.mapped)) leaf))) is.node
@@ -196,7 +186,6 @@ default-initial ss (Some t) k declared b h is = by_type t.colon t.type k b h is
     by_type colon (ScalarType at l) kinds.Untyped b h is = absurd h
     by_type colon (ScalarType at l) (kinds.Scalar k) (beginning.Value value) h is = record {
       type = typed-plain ss (Some (record { colon = colon; type = ScalarType at l })) (kinds.Scalar k) h;
-      text = refl;
       typed = λ p placing beside. ap (option_map written_type) (sym (placed-type value p beside ∙ ap placed_type placing));
       node = λ p placing beside.
           ap (λ i. Some (written_initial nowhere i)) (ap (λ j. One (default_tree j)) h ∙ sym is.0)
@@ -213,7 +202,6 @@ default-initial ss (Some t) k declared b h is = by_type t.colon t.type k b h is
     by_type colon (DomainType d) (kinds.Domain rank) (beginning.Value value) h is = absurd is
     by_type colon (DomainType d) (kinds.Domain rank) (beginning.Empty other) h is = record {
       type = typed-plain ss (Some (record { colon = colon; type = DomainType d })) (kinds.Domain rank) h;
-      text = refl;
       typed = λ p placing beside.
           ap (λ n. Some (written_type (ranked_type n (option_map (lowered_mapped known_variable) (option_map (renamed_mapped variable_of) (option_map (renamed_mapped (bound_in ss)) d.mapped)))))) (h ∙ ap dimensions (sym is))
           ∙ ap (λ m. Some (written_type (ranked_type (dimensions other) m))) (empty-typed ss d.mapped p placing);
@@ -263,11 +251,6 @@ given-fits : (start : Start) (config : Option Place) (x : Bound) (g : Seen) → 
 given-fits start None x g owed declares = tt
 given-fits start (Some at) x g owed declares = (owed, declares, refl)
 
--- a declaration that is refused declares no type
-pub unrefused : (bs : List Breach) (o : Option ValueType) (t : ValueType) → unless_refused bs o ≡ Some t → o ≡ Some t
-unrefused [] o t e = e
-unrefused (b ∷ bs) o t e = absurd (none-some t e)
-
 -- what is declared, and configured, is no array
 declared-single : (k : VariableKind) → IsSingleKind k → is_promoted k ≡ false
 declared-single (PlainKind k) h = refl
@@ -295,7 +278,7 @@ module _ (a : Plan) (d : DeclareTree Text) (made : DeclaredNode) (t : TypeNode) 
   is-typed = sym (ap (λ (y : Declared). y.type) same) ∙ ap of_type typed
 
   declared-given : type_given a.scopes (origin_in a.scopes d.name.name) (type_of d.typed) d.initial ≡ Some (type_view t)
-  declared-given = unrefused (declaration_breaches a.scopes d) (type_given a.scopes (origin_in a.scopes d.name.name) (type_of d.typed) d.initial) (type_view t) is-typed
+  declared-given = (unless-both (declaration_breaches a.scopes d) (type_given a.scopes (origin_in a.scopes d.name.name) (type_of d.typed) d.initial) (type_view t) is-typed).1
 
   pub declare-plans : (b : Plan) (begun : Beginning) (p : Placing) (slot : ℕ) (s : Step) → IsInitial a.scopes d.typed d.initial (type_view t) begun
       → IsPlacingOf a.scopes (type_of d.typed) d.initial p → IsPlacedWith begun p → AreFoundMaps a.scopes (type_of d.typed) d.initial → value_kind (type_view t) ≡ Some (begun_kind begun) → IsSingleKind (begun_kind begun)
@@ -318,13 +301,9 @@ module _ (a : Plan) (d : DeclareTree Text) (made : DeclaredNode) (t : TypeNode) 
         goes = record {
           scopes = to;
           plain = λ h. subst AreOpen (sym to) (plain-add new ss (begun_kind begun) of_kind (ap is_promoted_by is-typed ∙ single-type (type_view t) (begun_kind begun) kind single) refl alone h);
-          one = λ h. subst IsOneScope (sym to) (one-add new ss h);
-          given = λ h start g. given-before start new ss alone h (subst (AreGiven start) to g);
           slots = more;
           intents = ap (λ v. v.items) intents;
         };
-        text = ap (λ y. Declare (record { config = d.config; at = d.at; constant = d.constant; name = d.name; typed = y; initial = option_map (renamed_initial text_of) (bound_initial ss d.initial); semicolon = d.semicolon })) is.type.spelled
-            ∙ ap (λ i. Declare (record { config = d.config; at = d.at; constant = d.constant; name = d.name; typed = d.typed; initial = i; semicolon = d.semicolon })) is.text;
         node = ap (λ told. lowered_as d told x.variable (option_map written_type (declared_type known_variable (type_of typed_leaf) initial_leaf)) (declared_initial known_variable (type_of typed_leaf) initial_leaf)) is.type.untold
             ∙ ap (λ y. lowered_as d false x.variable y (declared_initial known_variable (type_of typed_leaf) initial_leaf)) (is.typed p placing beside)
             ∙ ap (lowered_as d false x.variable (begun_type begun p)) (is.node p placing beside)
@@ -356,7 +335,6 @@ module _ (a : Plan) (d : DeclareTree Text) (made : DeclaredNode) (t : TypeNode) 
 pub inside-plans : (a b : Plan) (d : DeclareTree Text) (s : Step) → d.config ≡ None → PlansDeclare a b d s → PlansStmt a b (Declare d) s
 inside-plans a b d s none p = record {
   goes = p.goes;
-  text = p.text;
   node = p.node;
   resolves = λ start h le. p.resolves start h le (subst (λ c. IsOwedBy c start (bound_new a.scopes (declared_by a.scopes d))) (sym none) tt);
 }

@@ -4,7 +4,7 @@ use Rattle.std.proofs.Common.{◌≡◌, ℕ, ◌≤◌, ◌<◌, Bool, true, fa
 use Rattle.std.specs.Prelude.{option_map}
 use Rattle.std.proofs.lemmas.Option.{none-some}
 use Rattle.dpl_syntax.specs.declared.place.Place.{Place}
-use Rattle.dpl_language.specs.Tree.{Kind, IntKind, BoolKind, ExprTree, ItemTree, One, Items, FirstItem, NoItems, NextItem, ArrayTypeTree, TypeTree, ScalarType, SyncType, DomainType, ArrayType, TypedTree, MappedTree, ItemInit, InitialTree, DeclareTree, StmtTree, Declare}
+use Rattle.dpl_language.specs.Tree.{Kind, IntKind, BoolKind, ExprTree, ItemTree, One, Items, FirstItem, NoItems, NextItem, ArrayTypeTree, TypeTree, ArrayType, MappedTree, ItemInit, InitialTree, DeclareTree, StmtTree, Declare}
 use Rattle.dpl_language.specs.Names.{Text}
 use Rattle.dpl_language.specs.Values.{default}
 use Rattle.dpl_language.specs.Phrases.{item_over, declared_over}
@@ -12,7 +12,6 @@ use Rattle.dpl_language.specs.Declarations.{type_of}
 use Rattle.dpl_agreement.specs.Renamed.{renamed_item, renamed_items, renamed_array_type, renamed_type, renamed_typed, renamed_initial}
 use Rattle.dpl_agreement.specs.Scopes.{form_by, fits_type, side_by, fits_initial, fits_given, suits_declared, fits_maps}
 use Rattle.dpl_agreement.proofs.RenamedParts.{declared_over-renamed, type_of-renamed}
-use Rattle.dpl_agreement.proofs.RenamedSame.{renamed_items-same}
 use Rattle.dpl_agreement.proofs.RenamedTwice.{renamed_items-twice}
 use Rattle.dpl_rules.specs.Types.{ValueType, Array, domain_of}
 use Rattle.dpl_rules.specs.Verdicts.{type_by}
@@ -28,8 +27,8 @@ use Rattle.dpl_scopes.specs.Slots.{next_slot_in}
 use Rattle.dpl_lowered.specs.Shapes.{nowhere, placed, hidden_item}
 use Rattle.dpl_lowered.specs.LoweredExpressions.{Once, EachTurn, lowered_item}
 use Rattle.dpl_lowered.specs.LoweredStatements.{written_initial, written_type, tells_name, unplaced_word, lowered_over, array_initial, declared_type, declared_initial}
-use Rattle.dpl_memory.specs.Memory.{VariableKind, ArrayKind, Variable, variable, known_variable}
-use Rattle.dpl_memory.specs.Resolved.{Bound, Seen, Shape, Start, text_of, variable_of, resolving, IsElement, MayHold, IsNew, IsWhole, OverResolves, SpansArray, Suits}
+use Rattle.dpl_memory.specs.Memory.{ArrayKind, Variable, variable, known_variable}
+use Rattle.dpl_memory.specs.Resolved.{Bound, Seen, Shape, Start, variable_of, resolving, IsElement, MayHold, IsNew, IsWhole, OverResolves, SpansArray, Suits}
 use Rattle.dpl_nodes.specs.declared.tree.RangesExpr.{RangesExpr}
 use Rattle.dpl_nodes.specs.declared.step.DeclaredOver.{DeclaredOver}
 use Rattle.dpl_nodes.specs.declared.step.DeclaredOver.TheVariants as over
@@ -50,16 +49,13 @@ use Rattle.dpl_typer.proofs.Overs.{over-resolves}
 use Rattle.dpl_runnable.specs.Runnable.{IsConfigOf, IsInitialOf, IsRunnableDeclare}
 use Rattle.dpl_planner.specs.declared.progress.Plan.{Plan}
 use Rattle.dpl_planner.specs.Bounds.{bound_new}
-use Rattle.dpl_planner.specs.Given.{AreGiven}
 use Rattle.dpl_typer.specs.Elaborated.{AreMany, HasNoDomain, ArePartsOf}
 use Rattle.dpl_planner.specs.Arrays.{between, IsOver, IsArrayInitial, HasElements, IsArrayKind}
 use Rattle.dpl_planner.specs.Elements.{IsValued}
 use Rattle.dpl_planner.specs.Parts.{IsItem, bound_typed, bound_initial, PlansDeclare}
-use Rattle.dpl_planner.specs.Plans.{seen_of, intents_in, AreOpen, IsOneScope}
-use Rattle.dpl_planner.proofs.Scoped.{open-known, plain-add, unless-both, array-typed}
-use Rattle.dpl_planner.proofs.Owed.{one-add, given-before}
+use Rattle.dpl_planner.specs.Plans.{seen_of, intents_in, AreOpen}
+use Rattle.dpl_planner.proofs.Scoped.{open-known, plain-add, unless-both, kind-typed, array-typed}
 use Rattle.dpl_planner.proofs.Items.{side-node, whole_side-fits, items-fit}
-use Rattle.dpl_planner.proofs.Mapped.{mapped_item-back}
 use Rattle.dpl_planner.proofs.ChangedArrays.{given-suits}
 use Rattle.dpl_planner.proofs.Declared.{declared-same}
 
@@ -94,7 +90,6 @@ element-default BoolKind = (false, refl)
 
 pub default-array : (ss : Scopes) (k : Kind) (b : Initial) → initial_view b ≡ None → initial_kind b ≡ k → IsArrayInitial ss k None b
 default-array ss k b node kind = record {
-  text = refl;
   node = sym node;
   kind = kind;
   fits_here = λ start is known. tt;
@@ -104,7 +99,6 @@ default-array ss k b node kind = record {
 pub given-array : (ss : Scopes) (k : Kind) (equals : Place) (item : ItemTree Text) (mapped : Option (MappedTree Text)) (t : Typed) (e : ExprTree Variable) (b : Initial) → IsItem ss item t → IsValued ss item t → operand_kind (kind_of t) ≡ Some k → One e ≡ typed_item EachTurn t
     → initial_view b ≡ Some (written_initial equals (One e)) → initial_kind b ≡ k → IsArrayInitial ss k (Some (record { equals = equals; init = ItemInit item mapped })) b
 given-array ss k equals item mapped t e b is valued given same node kind = record {
-  text = ap (λ i. Some (record { equals = equals; init = i })) (mapped_item-back ss item mapped);
   node = ap (λ i. Some (written_initial equals i)) (side-node ss item t is EachTurn ∙ sym same) ∙ sym node;
   kind = kind;
   fits_here = λ start intents known. whole_side-fits ss item t is start intents known;
@@ -113,18 +107,6 @@ given-array ss k equals item mapped t e b is valued given same node kind = recor
 }
 
 -- ---- DECLARATIONS
--- a type is spelled as it is
-typed-back : (ss : Scopes) (w : Option (TypedTree Text)) (arr : ArrayTypeTree Text) → type_of w ≡ Some (ArrayType arr) → option_map (renamed_typed text_of) (bound_typed ss w) ≡ w
-typed-back ss None arr e = absurd (none-some (ArrayType arr) e)
-typed-back ss (Some w) arr e = ap (λ y. Some (record { colon = w.colon; type = y })) (by w.type e)
-  where
-    by : (y : TypeTree Text) → Some y ≡ Some (ArrayType arr) → renamed_type text_of (renamed_type (bound_in ss) y) ≡ y
-    by (ScalarType at k) f = cc
-    by (SyncType at kind_at k) f = cc
-    by (DomainType d) f = cc
-    by (ArrayType a) f =
-        ap (λ is. ArrayType (record { from = a.from; over = is; upto = a.upto; kind_at = a.kind_at; kind = a.kind })) (renamed_items-twice text_of (bound_in ss) a.over ∙ renamed_items-same a.over)
-
 domain-found : (o : Option ValueType) (p : ℕ × Bool) → domain_in o ≡ Some p → (w : ValueType) × (o ≡ Some w) × (domain_of w ≡ Some p)
 domain-found None p e = absurd (none-some p e)
 domain-found (Some w) p e = (w, refl, e)
@@ -276,13 +258,9 @@ module _ (a : Plan) (d : DeclareTree Text) (arr : ArrayTypeTree Text) (typed : t
         goes = record {
           scopes = to;
           plain = λ h. subst AreOpen (sym to) (plain-add new ss (ArrayKind arr.kind) of_kind unpromoted refl alone h);
-          one = λ h. subst IsOneScope (sym to) (one-add new ss h);
-          given = λ h start g. given-before start new ss alone h (subst (AreGiven start) to g);
           slots = more;
           intents = ap (λ v. v.items) intents;
         };
-        text = ap (λ y. Declare (record { config = d.config; at = d.at; constant = d.constant; name = d.name; typed = y; initial = option_map (renamed_initial text_of) (bound_initial ss d.initial); semicolon = d.semicolon })) (typed-back ss d.typed arr typed)
-            ∙ ap (λ i. Declare (record { config = d.config; at = d.at; constant = d.constant; name = d.name; typed = d.typed; initial = i; semicolon = d.semicolon })) begun.text;
         node = node-of p is begun at from next ∙ sym step;
         resolves = λ start h le owed.
             let in_frame : next_slot_in ss < start.slots = omega (arith, below, le, next) in
@@ -299,20 +277,16 @@ module _ (ss : Scopes) (d : DeclareTree Text) (arr : ArrayTypeTree Text) (typed 
       subst (λ y. type_given ss (origin_in ss d.name.name) y d.initial ≡ Some t) typed
       (unless-both (declaration_breaches ss d) (type_given ss (origin_in ss d.name.name) (type_of d.typed) d.initial) t e).1
 
-  some-typed : (o : Option ValueType) (k : VariableKind) → kind_by o ≡ Some k → (t : ValueType) × (o ≡ Some t)
-  some-typed None k e = absurd (none-some k e)
-  some-typed (Some t) k e = (t, refl)
-
   -- it is of an array's kind, over a domain, and no `config`
   pub runnable-array : s.kind ≡ ArrayKind arr.kind
   runnable-array =
-      let (t, e) = some-typed (declared_by ss d).type s.kind s.declared in
+      let (t, e) = kind-typed (declared_by ss d).type s.kind s.declared in
       let (rank, strided, there, is) = array-typed ss (origin_in ss d.name.name) arr (domain_in over_found) t (runnable-given t e) in
       sym (kind_if-some (is_rank rank) (ArrayKind arr.kind) s.kind (ap value_kind is ∙ ap kind_by (sym e) ∙ s.declared)).1
 
   pub runnable-domain : HasNoDomain (item_parts ss arr.over) → ⊥
   runnable-domain h =
-      let (t, e) = some-typed (declared_by ss d).type s.kind s.declared in
+      let (t, e) = kind-typed (declared_by ss d).type s.kind s.declared in
       none-some t (sym (ap (λ o. over_domain ss (origin_in ss d.name.name) arr (domain_in o)) (h arr.from)) ∙ runnable-given t e)
 
   pub runnable-elements : HasElements ss arr.kind d.initial

@@ -1,4 +1,4 @@
--- Items and conditions that are elaborated: they are what is spelled, and fit where their names are in sight.
+-- Items and conditions that are elaborated: what is made of them is their lowered trees, and they fit where their names are in sight.
 -- A right side has values of the kind of what was made of it.
 use Rattle.std.proofs.Common.{◌≡◌, true, false, Bor, List, Option, Some, None, refl, sym, ap, ◌∙◌, subst, option_map}
 use Rattle.dpl_language.specs.Tree.{Op, ExprTree, TruthWord, DomainLiteral, Postfixed, ItemTree, NoPosts, Post, Dotted, Contains, Items, Exprs}
@@ -8,7 +8,6 @@ use Rattle.dpl_language.specs.Phrases.{ReadTree, item_read}
 use Rattle.dpl_agreement.specs.Scopes.{fits_expr, fits_item, fits_items, fits_exprs, fits_read, fits_side, fits_whole_side}
 use Rattle.dpl_agreement.specs.Renamed.{renamed_expr, renamed_item, renamed_items, renamed_exprs, renamed_read}
 use Rattle.dpl_agreement.proofs.RenamedParts.{item_read-renamed}
-use Rattle.dpl_agreement.proofs.RenamedSame.{renamed_expr-same, renamed_item-same}
 use Rattle.dpl_agreement.proofs.RenamedTwice.{renamed_expr-twice, renamed_item-twice}
 use Rattle.dpl_rules.specs.Types.{ValueType}
 use Rattle.dpl_rules.specs.Sights.{Scopes}
@@ -19,7 +18,7 @@ use Rattle.dpl_lowered.specs.LoweredExpressions.{Times, Once, lowered_expr, lowe
 use Rattle.dpl_lowered.specs.LoweredStatements.{lowered_side}
 use Rattle.dpl_words.specs.Words.{IntLeaf, TruthLeaf, RangeLeaf, LocaleLeaf}
 use Rattle.dpl_memory.specs.Memory.{VariableKind, PlainKind, DomainKind, TupleKind, CellKind, ArrayKind, Variable, known_variable}
-use Rattle.dpl_memory.specs.Resolved.{Bound, Start, text_of, variable_of, resolving, HasShape, Suits}
+use Rattle.dpl_memory.specs.Resolved.{Bound, Start, variable_of, resolving, HasShape, Suits}
 use Rattle.dpl_memory.proofs.Fitting.{expr_fits, item_fits}
 use Rattle.dpl_nodes.specs.declared.tree.BoolExpr.{BoolExpr}
 use Rattle.dpl_typer.specs.declared.make.Typed.{Typed}
@@ -67,9 +66,6 @@ item-shaped ss i declared (ArrayKind k) v taken kind once typed = absurd (let f 
 item-shaped ss i declared (CellKind c) v taken kind once typed = taken-shape declared taken.0 (CellKind c) v kind refl taken.2 (typed taken.0 taken.1)
 
 module _ (ss : Scopes) (i : ItemTree Text) where
-  pub item-text : renamed_item text_of (renamed_item (bound_in ss) i) ≡ i
-  item-text = renamed_item-twice text_of (bound_in ss) i ∙ renamed_item-same i
-
   module _ (t : Typed) (is : IsItem ss i t) where
     pub item-node : (m : Times) → lowered_item known_variable m (renamed_item variable_of (renamed_item (bound_in ss) i)) ≡ typed_item m t
     item-node m = ap (lowered_item known_variable m) (renamed_item-twice variable_of (bound_in ss) i) ∙ sym (is.node m)
@@ -117,9 +113,6 @@ module _ (ss : Scopes) (is : Items Text) (plain : AreKnownScopes ss) (found : Ar
 
 -- CONDITIONS
 module _ (ss : Scopes) (e : ExprTree Text) where
-  pub expr-text : renamed_expr text_of (renamed_expr (bound_in ss) e) ≡ e
-  expr-text = renamed_expr-twice text_of (bound_in ss) e ∙ renamed_expr-same e
-
   module _ (b : Bor BoolExpr) (is : IsCondition ss e b) where
     pub condition-node : lowered_expr known_variable Once (renamed_expr variable_of (renamed_expr (bound_in ss) e)) ≡ truth_view b.now
     condition-node = ap (lowered_expr known_variable Once) (renamed_expr-twice variable_of (bound_in ss) e) ∙ sym is.node

@@ -1,4 +1,5 @@
 pub mod Scoped
+pub mod Spelled
 pub mod Items
 pub mod Mapped
 pub mod Placed

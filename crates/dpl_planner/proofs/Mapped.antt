@@ -1,20 +1,18 @@
--- Lists with commas, of which each part is changed and changed back, are as they were.
--- So are the maps of domains, and what is mapped; over slots a map is what its typed one stands for, and it fits where its names are in
+-- The maps of domains, with their names resolved: over slots a map is what its typed one stands for, and it fits where its names are in
 -- sight.
 use Rattle.std.proofs.Common.{◌≡◌, List, [], ◌∷◌, Option, Some, None, map, refl, ap, ◌∙◌}
 use Rattle.std.specs.Prelude.{option_map}
-use Rattle.dpl_language.specs.Tree.{Op, AfterComma, Listed, ExprTree, ItemTree, StartTree, StartExpr, StartTuple, BlockCyclicTree, MapTree, BlockMap, CyclicMap, BlockCyclicMap, MappedTree, TypeTree, ScalarType, SyncType, DomainType, ArrayType, TypedTree, CreateTree, InitTree, ItemInit, CreateInit, InitialTree}
+use Rattle.dpl_language.specs.Tree.{Op, AfterComma, Listed, ExprTree, StartTree, StartExpr, StartTuple, MapTree, BlockMap, CyclicMap, BlockCyclicMap, MappedTree, TypeTree, ScalarType, SyncType, DomainType, ArrayType, TypedTree, InitTree, ItemInit, CreateInit, InitialTree}
 use Rattle.dpl_language.specs.Names.{Text}
 use Rattle.dpl_language.specs.Declarations.{type_of}
 use Rattle.dpl_agreement.specs.Renamed.{map_comma, map_listed, renamed_expr, renamed_item, renamed_start, renamed_map, renamed_mapped, renamed_type, renamed_init}
 use Rattle.dpl_agreement.specs.Scopes.{init_map, initial_map, fits_expr, fits_each_value, fits_start, fits_map, fits_mapped, fits_maps}
-use Rattle.dpl_agreement.proofs.RenamedSame.{renamed_items-same}
-use Rattle.dpl_agreement.proofs.RenamedTwice.{renamed_expr-twice, renamed_item-twice, renamed_items-twice}
+use Rattle.dpl_agreement.proofs.RenamedTwice.{renamed_expr-twice, renamed_item-twice}
 use Rattle.dpl_rules.specs.Sights.{Scopes}
 use Rattle.dpl_lowered.specs.LoweredExpressions.{Once, lowered_item}
 use Rattle.dpl_lowered.specs.LoweredStatements.{block_map, cyclic_map, block_cyclic_map, lowered_start, lowered_map}
 use Rattle.dpl_memory.specs.Memory.{known_variable}
-use Rattle.dpl_memory.specs.Resolved.{Bound, Seen, Start, text_of, variable_of, resolving}
+use Rattle.dpl_memory.specs.Resolved.{Bound, Seen, Start, variable_of, resolving}
 use Rattle.dpl_memory.proofs.Fitting.{expr_fits, item_fits}
 use Rattle.dpl_typer.specs.Leaves.{leaf_in, IsFound}
 use Rattle.dpl_typer.specs.Simple.{IsSimple, AreSimpleMoreExprs}
@@ -25,29 +23,6 @@ use Rattle.dpl_placing.specs.Named.{IsSimpleMap, map_leaves}
 use Rattle.dpl_placing.specs.Roots.{IsFoundIn, AreFoundMaps}
 use Rattle.dpl_planner.specs.Parts.{bound_typed, bound_initial}
 use Rattle.dpl_planner.specs.Plans.{seen_of}
-use Rattle.dpl_planner.proofs.Items.{item-text, expr-text}
-
-module _ {A B : Type 0} (f : B → A) (g : A → B) (back : (x : A) → f (g x) ≡ x) where
-  others-back : (xs : List (AfterComma A)) → map (map_comma f) (map (map_comma g) xs) ≡ xs
-  others-back [] = refl
-  others-back (x ∷ xs) = ap (λ y. record { comma = x.comma; part = y } ∷ map (map_comma f) (map (map_comma g) xs)) (back x.part) ∙ ap (λ ys. x ∷ ys) (others-back xs)
-
-  pub map_listed-back : (xs : Listed A) → map_listed f (map_listed g xs) ≡ xs
-  map_listed-back xs = ap (λ x. record { first = x; others = map (map_comma f) (map (map_comma g) xs.others) }) (back xs.first) ∙ ap (λ ys. record { first = xs.first; others = ys }) (others-back xs.others)
-
--- a block-cyclic map with this start and these sizes
-abbrev block_cyclic : BlockCyclicTree Text → StartTree Text → StartTree Text → MapTree Text
-block_cyclic m start size = BlockCyclicMap (record {
-  new = m.new;
-  word = m.word;
-  from = m.from;
-  start_argument = m.start_argument;
-  start = start;
-  comma = m.comma;
-  size_argument = m.size_argument;
-  size = size;
-  upto = m.upto;
-})
 
 -- what is changed twice is changed by both at once
 module _ {A B C : Type 0} (f : B → C) (g : A → B) (h : A → C) (both : (x : A) → f (g x) ≡ h x) where
@@ -115,28 +90,3 @@ module _ (ss : Scopes) (known : AreKnownScopes ss) (start : Start) (intents : Li
       by (SyncType at kind_at k) found = (tt, initial-fits i found.1)
       by (DomainType d) found = (mapped-fits d.mapped found.0, initial-fits i found.1)
       by (ArrayType a) found = tt
-
--- Names that are resolved and spelled again: what is mapped, its map, and what a domain is created from, are as they were.
-module _ (ss : Scopes) where
-  start-back : (s : StartTree Text) → renamed_start text_of (renamed_start (bound_in ss) s) ≡ s
-  start-back (StartExpr e) = ap StartExpr (expr-text ss e)
-  start-back (StartTuple from es upto) = ap (λ es. StartTuple from es upto) (map_listed-back (renamed_expr text_of) (renamed_expr (bound_in ss)) (expr-text ss) es)
-
-  map-back : (m : MapTree Text) → renamed_map text_of (renamed_map (bound_in ss) m) ≡ m
-  map-back (BlockMap m) = ap (λ i. BlockMap (record { new = m.new; word = m.word; from = m.from; argument = m.argument; box = i; upto = m.upto })) (item-text ss m.box)
-  map-back (CyclicMap m) = ap (λ s. CyclicMap (record { new = m.new; word = m.word; from = m.from; argument = m.argument; start = s; upto = m.upto })) (start-back m.start)
-  map-back (BlockCyclicMap m) =
-      ap (λ s. block_cyclic m s (renamed_start text_of (renamed_start (bound_in ss) m.size))) (start-back m.start) ∙ ap (block_cyclic m m.start) (start-back m.size)
-
-  pub mapped-back : (o : Option (MappedTree Text)) → option_map (renamed_mapped text_of) (option_map (renamed_mapped (bound_in ss)) o) ≡ o
-  mapped-back None = refl
-  mapped-back (Some m) = ap (λ k. Some (record { at = m.at; map = k })) (map-back m.map)
-
-  pub mapped_item-back : (item : ItemTree Text) (mapped : Option (MappedTree Text)) → renamed_init text_of (renamed_init (bound_in ss) (ItemInit item mapped)) ≡ ItemInit item mapped
-  mapped_item-back item mapped =
-      ap (λ i. ItemInit i (option_map (renamed_mapped text_of) (option_map (renamed_mapped (bound_in ss)) mapped))) (item-text ss item) ∙ ap (ItemInit item) (mapped-back mapped)
-
-  pub created-back : (c : CreateTree Text) → renamed_init text_of (renamed_init (bound_in ss) (CreateInit c)) ≡ CreateInit c
-  created-back c =
-      ap (λ is. CreateInit (record { at = c.at; word = c.word; dot = c.dot; method = c.method; from = c.from; items = is; upto = c.upto }))
-      (renamed_items-twice text_of (bound_in ss) c.items ∙ renamed_items-same c.items)

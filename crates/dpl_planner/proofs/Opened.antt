@@ -24,7 +24,7 @@ use Rattle.dpl_lowered.specs.Shapes.{nowhere, unplaced}
 use Rattle.dpl_lowered.specs.LoweredStatements.{lowered_variables}
 use Rattle.dpl_words.specs.Words.{IntLeaf, TruthLeaf, RangeLeaf, LocaleLeaf}
 use Rattle.dpl_memory.specs.Memory.{VariableKind, PlainKind, DomainKind, TupleKind, CellKind, ArrayKind, Variable, int_leaf}
-use Rattle.dpl_memory.specs.Resolved.{Bound, Start, text_of, variable_of, IsUnused, AreUnused, MayHold, SuitsTurns, resolving}
+use Rattle.dpl_memory.specs.Resolved.{Bound, Start, variable_of, IsUnused, AreUnused, MayHold, SuitsTurns, resolving}
 use Rattle.dpl_nodes.specs.declared.step.Names.TheVariants as names
 use Rattle.dpl_nodes.specs.Steps.{unplaced_leaf, next_name}
 use Rattle.dpl_typer.specs.Makers.{is_promoted}
@@ -40,16 +40,6 @@ use Rattle.dpl_planner.specs.Parts.{IsTurnKind, AreTurnKinds, AreFresh, slots_fr
 use Rattle.dpl_planner.specs.Plans.{seen_of, AreOpen}
 use Rattle.dpl_planner.proofs.Scoped.{sight_of-plain, plain-add, open-known, new-no_array, IsOverNone, single-over, single-type}
 use Rattle.dpl_planner.proofs.Headers.{over-simple}
-
--- THEIR TEXTS
-others-text : (t : Option ValueType) (ss : Scopes) (xs : List (AfterComma (Placed Text))) → map (map_comma (renamed text_of)) (bound_others t ss xs) ≡ xs
-others-text t ss [] = refl
-others-text t ss (x ∷ xs) = ap (λ ys. x ∷ ys) (others-text t (add (loop_variable t ss x.part.name) ss) xs)
-
-pub variables-text : (t : Option ValueType) (ss : Scopes) (xs : VariablesTree Text) → renamed_variables text_of (bound_variables t ss xs) ≡ xs
-variables-text t ss (OneVariable x) = refl
-variables-text t ss (ManyVariables from xs upto) =
-    ap (λ ys. ManyVariables from (record { first = xs.first; others = ys }) upto) (others-text t (add (loop_variable t ss xs.first.name) ss) xs.others)
 
 -- THEIR KIND
 pub turn-kind : (xs : VariablesTree Text) (o : Option VariableKind) → AreTurnKinds xs o → (k : VariableKind) × (o ≡ Some k) × (is_promoted k ≡ false)

@@ -5,28 +5,39 @@ use Rattle.std.specs.Prelude.{bytes_eq, if◌then◌else◌, IfOk}
 use Rattle.std.specs.Option.{option_or}
 use Rattle.std.proofs.lemmas.Slice.Eq.{bytes_eq-Decides}
 use Rattle.dpl_syntax.specs.declared.place.Place.{Place}
-use Rattle.dpl_language.specs.Tree.{DeclareTree, StmtTree, Declare}
+use Rattle.dpl_language.specs.Tree.{DeclareTree, StmtTree, Declare, Stmts, NoStmts, Then}
 use Rattle.dpl_language.specs.Names.{Text}
 use Rattle.dpl_rules.specs.Sights.{Declared, Scope, Scopes, find, lookup, type_declared, declared_here, add}
-use Rattle.dpl_rules.specs.Sound.{is_configured}
+use Rattle.dpl_rules.specs.Loops.{behind}
+use Rattle.dpl_rules.specs.Sound.{is_configured, behind_all}
 use Rattle.dpl_rules.specs.Declarations.{sort_of, declared_by}
 use Rattle.dpl_scopes.specs.Slots.{count_in, place_in, slot_or, slot_in}
 use Rattle.dpl_memory.specs.Resolved.{Bound, Start}
 use Rattle.dpl_typer.specs.Leaves.{kind_by, leaf_by}
 use Rattle.dpl_typer.specs.Shapes.{shape_by}
-use Rattle.dpl_typer.specs.Sights.{bound_in, bound_at}
+use Rattle.dpl_typer.specs.Sights.{bound_in, bound_at, AreKnownScopes}
 use Rattle.dpl_planner.specs.declared.progress.Plan.{Plan}
 use Rattle.dpl_nodes.specs.declared.step.Step.{Step}
 use Rattle.dpl_planner.specs.Bounds.{bound_new}
 use Rattle.dpl_planner.specs.Given.{IsOfLeaf, IsGiven, IsConfig, AreGiven}
 use Rattle.dpl_planner.specs.Parts.{IsOwed, IsOwedBy, PlansDeclare}
-use Rattle.dpl_planner.specs.Plans.{IsOneScope, PlansStmt, PlansTop}
-use Rattle.dpl_planner.proofs.Scoped.{unfound, next_open}
+use Rattle.dpl_planner.specs.Plans.{AreOpen, IsOneScope, AreOwed, PlansStmt, PlansTop}
+use Rattle.dpl_planner.proofs.Scoped.{unfound, next_open, added-new, behind-cases}
 
-pub one-add : (d : Declared) (ss : Scopes) → IsOneScope ss → IsOneScope (add d ss)
+one-add : (d : Declared) (ss : Scopes) → IsOneScope ss → IsOneScope (add d ss)
 one-add d [] h = absurd h
 one-add d (s ∷ []) h = tt
 one-add d (s ∷ t ∷ ss) h = absurd h
+
+one-before : (d : Declared) (ss : Scopes) → AreOpen ss → IsOneScope (add d ss) → IsOneScope ss
+one-before d [] opened h = absurd opened
+one-before d (s ∷ []) opened h = tt
+one-before d (s ∷ t ∷ ss) opened h = absurd h
+
+-- the top level stays one scope
+pub tops-one : (ts : Stmts Text) (ss : Scopes) → IsOneScope ss → IsOneScope (behind_all ss ts)
+tops-one NoStmts ss h = h
+tops-one (Then t rest) ss h = tops-one rest (behind ss t) (behind-cases IsOneScope t ss h (λ d. one-add d ss h))
 
 -- a name, as it is resolved behind a declaration, by whether it is the declared one
 abbrev bound_by : Declared → Scope → Scopes → Text → Bool → Bound
@@ -39,7 +50,7 @@ bound_by d s ss x t = record {
 abbrev GivenBy : Start → Declared → Scope → Scopes → Text → Bool → Type 0
 GivenBy start d s ss x t = IsConfig (option_or (if t then Some d else find s x) (lookup ss x)) → IsGiven start (bound_by d s ss x t)
 
-pub given-before : (start : Start) (d : Declared) (ss : Scopes) → declared_here ss d.origin.name ≡ false → IsOneScope ss → AreGiven start (add d ss) → AreGiven start ss
+given-before : (start : Start) (d : Declared) (ss : Scopes) → declared_here ss d.origin.name ≡ false → IsOneScope ss → AreGiven start (add d ss) → AreGiven start ss
 given-before start d [] alone h given = absurd h
 given-before start d (s ∷ t ∷ ss) alone h given = absurd h
 given-before start d (s ∷ []) alone h given = λ x c. other x c (bytes_eq x d.origin.name) refl (given x)
@@ -49,6 +60,12 @@ given-before start d (s ∷ []) alone h given = λ x c. other x c (bytes_eq x d.
         let none : find s x ≡ None = subst (λ y. find s y ≡ None) (sym ((bytes_eq-Decides x d.origin.name).0 e)) (unfound (find s d.origin.name) alone) in
         absurd (subst (λ o. IsConfig (option_or o None)) none c)
     other x c false e g = g c
+
+-- so what is owed behind a statement is owed before it
+pub owed-before : (t : StmtTree Text) (ss : Scopes) (start : Start) → AreOpen ss → AreKnownScopes (behind ss t) → AreOwed start (behind ss t) → AreOwed start ss
+owed-before t ss start opened =
+    behind-cases (λ to. AreKnownScopes to → AreOwed start to → AreOwed start ss) t ss (λ known owed. owed)
+    (λ d known owed. let one = one-before d ss opened owed.0 in (one, given-before start d ss (added-new d ss known) one owed.1))
 
 same-text : (x : Text) → bytes_eq x x ≡ true
 same-text x = (bytes_eq-Decides x x).1 refl
@@ -69,13 +86,12 @@ given-owed start ss d leaf given = by d.config refl
 pub declare-top : (a b : Plan) (d : DeclareTree Text) (s : Step) → ((at : Place) → d.config ≡ Some at → IsOfLeaf (declared_by a.scopes d)) → PlansDeclare a b d s → PlansTop a b (Declare d) s
 declare-top a b d s leaf p = record {
   goes = p.goes;
-  text = p.text;
   node = p.node;
-  resolves = λ start h le given. p.resolves start h le (given-owed start a.scopes d leaf (subst (AreGiven start) p.goes.scopes given));
+  resolves = λ start h le owed. p.resolves start h le (given-owed start a.scopes d leaf (subst (AreGiven start) p.goes.scopes owed.1));
 }
 
 pub stmt-top : (a b : Plan) (t : StmtTree Text) (s : Step) → PlansStmt a b t s → PlansTop a b t s
-stmt-top a b t s p = record { goes = p.goes; text = p.text; node = p.node; resolves = λ start h le given. p.resolves start h le }
+stmt-top a b t s p = record { goes = p.goes; node = p.node; resolves = λ start h le owed. p.resolves start h le }
 
 pub declared-top : {E : Type 0} (r : Result Step E) (a b : Plan) (d : DeclareTree Text) → IfOk r (λ s. (at : Place) → d.config ≡ Some at → IsOfLeaf (declared_by a.scopes d)) → IfOk r (λ s. PlansDeclare a b d s)
     → IfOk r (λ s. PlansTop a b (Declare d) s)

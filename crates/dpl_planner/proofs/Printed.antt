@@ -25,7 +25,7 @@ use Rattle.dpl_memory.proofs.Fitting.{NamesAre, expr_fits}
 use Rattle.dpl_nodes.specs.declared.tree.IntExpr.{IntExpr, Local as IntLocal}
 use Rattle.dpl_nodes.specs.declared.tree.BoolExpr.{BoolExpr, Local as TruthLocal}
 use Rattle.dpl_nodes.specs.Typed.{int_view, truth_view}
-use Rattle.dpl_memory.specs.Resolved.{Bound, Start, text_of, variable_of, resolving, Resolves}
+use Rattle.dpl_memory.specs.Resolved.{Bound, Start, variable_of, resolving, Resolves}
 use Rattle.dpl_nodes.specs.declared.step.Argument.{Argument}
 use Rattle.dpl_nodes.specs.declared.step.Argument.TheVariants as node
 use Rattle.dpl_nodes.specs.declared.step.Step.{Write as WriteStep}
@@ -39,13 +39,12 @@ use Rattle.dpl_planner.specs.declared.progress.Plan.{Plan}
 use Rattle.dpl_planner.specs.Parts.{IsWholeArray, IsArgument, AreArguments, StillArguments}
 use Rattle.dpl_planner.specs.Plans.{seen_of, intents_in, PlansStmt}
 use Rattle.dpl_nodes.proofs.Unread.{cell_read-int, cell_read-truth}
-use Rattle.dpl_planner.proofs.Items.{expr-text}
 use Rattle.dpl_planner.proofs.Bodies.{goes-nowhere}
 use Rattle.dpl_planner.proofs.Scoped.{open-known}
 
 -- ---- ONE ARGUMENT
 pub text-argument : (ss : Scopes) (at : Place) (cs : List ℕ) (b : Bor (List ℕ)) → b.now ≡ cs → IsArgument ss (TextArgument at cs) (node.Text b)
-text-argument ss at cs b e = record { text = refl; node = ap (TextArgument nowhere) (sym e); fits_before = λ start is rest h f. f }
+text-argument ss at cs b e = record { node = ap (TextArgument nowhere) (sym e); fits_before = λ start is rest h f. f }
 
 -- a bare name that is handed to `write` is in sight
 shown-fits : (start : Start) (ss : Scopes) (is : List (Bound × Op)) (e : ExprTree Bound) → NamesAre (λ b. Resolves b (seen_of ss is)) e → fits_shown (resolving start) (bare_name e) (seen_of ss is)
@@ -101,14 +100,12 @@ module _ (ss : Scopes) (e : ExprTree Text) (f : ExprTree Variable) (unread : cel
 
 pub int-argument : (ss : Scopes) (e : ExprTree Text) (b : Bor IntExpr) → int_view b.now ≡ lowered_expr known_variable Once (renamed_expr (leaf_in ss) e) → IsSimple (IsFound ss) e → IsArgument ss (ExprArgument e) (node.Int b)
 int-argument ss e b is found = record {
-  text = ap ExprArgument (expr-text ss e);
   node = argument-node ss e (int_view b.now) (cell_read-int b.now) (array_name-int b.now) is found;
   fits_before = expr_fits-before ss e (int_view b.now) (cell_read-int b.now) (array_name-int b.now) is found;
 }
 
 pub truth-argument : (ss : Scopes) (e : ExprTree Text) (b : Bor BoolExpr) → truth_view b.now ≡ lowered_expr known_variable Once (renamed_expr (leaf_in ss) e) → IsSimple (IsFound ss) e → IsArgument ss (ExprArgument e) (node.Truth b)
 truth-argument ss e b is found = record {
-  text = ap ExprArgument (expr-text ss e);
   node = argument-node ss e (truth_view b.now) (cell_read-truth b.now) (array_name-truth b.now) is found;
   fits_before = expr_fits-before ss e (truth_view b.now) (cell_read-truth b.now) (array_name-truth b.now) is found;
 }
@@ -121,7 +118,6 @@ bare-same (Some m) n x e is = ap (λ (y : Bor NameNode). y.now.text.now) (sym (s
 -- a whole array, by its name
 pub array-argument : (ss : Scopes) (e : ExprTree Text) (k : Kind) (slot : ℕ) → IsWholeArray ss e k slot → IsArgument ss (ExprArgument e) (node.Array k slot)
 array-argument ss e k slot (x, named, kind, at) = subst (λ e. IsArgument ss (ExprArgument e) (node.Array k slot)) (sym named) (record {
-  text = refl;
   node = ap (λ (l : Variable). lowered_argument known_variable (ExprArgument (Named (record { at = x.at; name = l })))) leaf;
   fits_before = λ start is rest h f.
       let found = innermost-found x.name ss h (ArrayKind k, slot, kind, at) in
@@ -151,13 +147,6 @@ module _ (ss : Scopes) where
   abbrev twice : ArgumentTree Text → ArgumentTree Variable
   twice a = lowered_argument known_variable (renamed_argument variable_of (renamed_argument (bound_in ss) a))
 
-  texts-back : (xs : List (AfterComma (ArgumentTree Text))) (bs : List Argument) → AreArguments ss (map (λ x. x.part) xs) bs
-      → map (map_comma (renamed_argument text_of)) (map (map_comma (renamed_argument (bound_in ss))) xs) ≡ xs
-  texts-back [] bs f = refl
-  texts-back (x ∷ xs) [] f = absurd f
-  texts-back (x ∷ xs) (b ∷ bs) f =
-      ap (λ y. record { comma = x.comma; part = y } ∷ map (map_comma (renamed_argument text_of)) (map (map_comma (renamed_argument (bound_in ss))) xs)) f.0.text ∙ ap (λ ys. x ∷ ys) (texts-back xs bs f.1)
-
   others-node : (xs : List (AfterComma (ArgumentTree Text))) (bs : List Argument) → AreArguments ss (map (λ x. x.part) xs) bs
       → map (λ x. record { comma = nowhere; part = lowered_argument known_variable x.part }) (map (map_comma (renamed_argument variable_of)) (map (map_comma (renamed_argument (bound_in ss))) xs)) ≡ map next_argument_view bs
   others-node [] [] f = refl
@@ -166,14 +155,6 @@ module _ (ss : Scopes) where
   others-node (x ∷ xs) (b ∷ bs) f =
       ap (λ y. record { comma = nowhere; part = y } ∷ map (λ z. record { comma = nowhere; part = lowered_argument known_variable z.part }) (map (map_comma (renamed_argument variable_of)) (map (map_comma (renamed_argument (bound_in ss))) xs))) f.0.node
       ∙ ap (λ ys. next_argument_view b ∷ ys) (others-node xs bs f.1)
-
-  arguments-text : (xs : Option (Listed (ArgumentTree Text))) (bs : List Argument) → AreArguments ss (arguments_of xs) bs
-      → option_map (map_listed (renamed_argument text_of)) (option_map (map_listed (renamed_argument (bound_in ss))) xs) ≡ xs
-  arguments-text None bs f = refl
-  arguments-text (Some xs) [] f = absurd f
-  arguments-text (Some xs) (b ∷ bs) f =
-      ap (λ x. Some (record { first = x; others = map (map_comma (renamed_argument text_of)) (map (map_comma (renamed_argument (bound_in ss))) xs.others) })) f.0.text
-      ∙ ap (λ ys. Some (record { first = xs.first; others = ys })) (texts-back xs.others bs f.1)
 
   arguments-node : (xs : Option (Listed (ArgumentTree Text))) (bs : List Argument) → AreArguments ss (arguments_of xs) bs
       → option_map (relisted (lowered_argument known_variable)) (option_map (map_listed (renamed_argument variable_of)) (option_map (map_listed (renamed_argument (bound_in ss))) xs)) ≡ arguments_view bs
@@ -187,7 +168,6 @@ module _ (ss : Scopes) where
 pub write-plans : (a : Plan) (w : WriteTree Text) (bs : Bor (List Argument)) → AreArguments a.scopes (arguments_of w.arguments) bs.now → PlansStmt a a (Write w) (WriteStep w.ends_line bs)
 write-plans a w bs f = record {
   goes = goes-nowhere a;
-  text = ap (λ xs. Write (record { at = w.at; ends_line = w.ends_line; from = w.from; arguments = xs; upto = w.upto; semicolon = w.semicolon })) (arguments-text a.scopes w.arguments bs.now f);
   node = ap (λ xs. Write (record { at = nowhere; ends_line = w.ends_line; from = nowhere; arguments = xs; upto = nowhere; semicolon = nowhere })) (arguments-node a.scopes w.arguments bs.now f);
   resolves = λ start h le.
       subst (λ xs. fits_arguments (resolving start) xs (seen_of a.scopes (intents_in a))) (sym (arguments_of-renamed (bound_in a.scopes) w.arguments))

@@ -88,7 +88,7 @@ before-plain : (d : Declared) (ss : Scopes) → AreKnownScopes (add d ss) → Ar
 before-plain d [] h = tt
 before-plain d (s ∷ ss) h = (h.0.2, h.1)
 
-added-new : (d : Declared) (ss : Scopes) → AreKnownScopes (add d ss) → declared_here ss d.origin.name ≡ false
+pub added-new : (d : Declared) (ss : Scopes) → AreKnownScopes (add d ss) → declared_here ss d.origin.name ≡ false
 added-new d [] h = refl
 added-new d (s ∷ ss) h = ap is_some h.0.1
 
@@ -160,7 +160,7 @@ kept-over ss self Locale h = refl
 kept-over ss self AllLocales h = refl
 kept-over ss self (Cell l) h = refl
 
-kind-typed : (o : Option ValueType) (k : VariableKind) → kind_by o ≡ Some k → (t : ValueType) × (o ≡ Some t)
+pub kind-typed : (o : Option ValueType) (k : VariableKind) → kind_by o ≡ Some k → (t : ValueType) × (o ≡ Some t)
 kind-typed None k e = absurd (none-some k e)
 kind-typed (Some t) k e = (t, refl)
 
@@ -236,20 +236,24 @@ module _ (ss : Scopes) where
         let typed = kind-typed (declared_by ss d).type kind.0 kind.1 in
         by_typed d.typed typed.0 typed.1 (λ none. untyped-declared d typed.0 none typed.1) ∙ sym (ap (over_by ss self) typed.1)
 
--- ---- WHAT IS IN SIGHT before statements is plain where it is so behind them.
+-- ---- BEHIND A STATEMENT stands one more name or none.
+pub behind-cases : (P : Scopes → Type 0) (t : StmtTree Text) (ss : Scopes) → P ss → ((d : Declared) → P (add d ss)) → P (behind ss t)
+behind-cases P (Nothing at) ss same more = same
+behind-cases P (Declare d) ss same more = more (declared_by ss d)
+behind-cases P (Assigned target sign item semicolon) ss same more = same
+behind-cases P (Call x dot call semicolon) ss same more = same
+behind-cases P (Write w) ss same more = same
+behind-cases P (Block from ts upto) ss same more = same
+behind-cases P (If at e first second) ss same more = same
+behind-cases P (While at e body) ss same more = same
+behind-cases P (For at xs word item body) ss same more = same
+behind-cases P (Forall at xs word item intents body) ss same more = same
+behind-cases P (Coforall at xs word item intents body) ss same more = same
+behind-cases P (On at e body) ss same more = same
+
+-- what is in sight before statements is plain where it is so behind them
 stmt-plain : (t : StmtTree Text) (ss : Scopes) → AreKnownScopes (behind ss t) → AreKnownScopes ss
-stmt-plain (Nothing at) ss h = h
-stmt-plain (Declare d) ss h = before-plain (declared_by ss d) ss h
-stmt-plain (Assigned target sign item semicolon) ss h = h
-stmt-plain (Call x dot call semicolon) ss h = h
-stmt-plain (Write w) ss h = h
-stmt-plain (Block from ts upto) ss h = h
-stmt-plain (If at e first second) ss h = h
-stmt-plain (While at e body) ss h = h
-stmt-plain (For at xs word item body) ss h = h
-stmt-plain (Forall at xs word item intents body) ss h = h
-stmt-plain (Coforall at xs word item intents body) ss h = h
-stmt-plain (On at e body) ss h = h
+stmt-plain t ss = behind-cases (λ to. AreKnownScopes to → AreKnownScopes ss) t ss (λ h. h) (λ d. before-plain d ss)
 
 stmts-plain : (ts : Stmts Text) (ss : Scopes) → AreKnownScopes (behind_all ss ts) → AreKnownScopes ss
 stmts-plain NoStmts ss h = h

@@ -4,11 +4,11 @@ use Rattle.std.proofs.Common.{◌≡◌, ℕ, ◌≤◌, Bor, List, [], ◌∷�
 use Rattle.std.specs.Prelude.{option_map}
 use Rattle.std.specs.Global.{Vec}
 use Rattle.dpl_syntax.specs.declared.place.Place.{Place}
-use Rattle.dpl_language.specs.Tree.{Placed, ExprTree, ItemTree, VariablesTree, IntentTree, ReduceIntent, RefIntent, WithTree, StmtTree, Nothing, If, While, For, Forall, Body, Else}
+use Rattle.dpl_language.specs.Tree.{Placed, ExprTree, ItemTree, VariablesTree, WithTree, StmtTree, Nothing, If, While, For, Forall, Body, Else}
 use Rattle.dpl_language.specs.Names.{Text}
 use Rattle.dpl_language.specs.Phrases.{intents_of}
 use Rattle.dpl_agreement.specs.Scopes.{fits as fits_stmt, fits_body}
-use Rattle.dpl_agreement.specs.Renamed.{renamed_stmt, renamed_expr, renamed_item, renamed_intent, renamed_with, renamed_variables, renamed_body, renamed_else, renamed_intents}
+use Rattle.dpl_agreement.specs.Renamed.{renamed_stmt, renamed_expr, renamed_item, renamed_with, renamed_variables, renamed_intents}
 use Rattle.dpl_agreement.proofs.RenamedParts.{intents_of-renamed}
 use Rattle.dpl_rules.specs.Types.{ValueType}
 use Rattle.dpl_rules.specs.Sights.{Scope, Scopes, enter}
@@ -18,7 +18,7 @@ use Rattle.dpl_lowered.specs.Shapes.{nowhere}
 use Rattle.dpl_lowered.specs.LoweredExpressions.{Once, lowered_expr, lowered_item}
 use Rattle.dpl_lowered.specs.LoweredStatements.{with_intents, lowered_variables, lowered_stmt}
 use Rattle.dpl_memory.specs.Memory.{known_variable}
-use Rattle.dpl_memory.specs.Resolved.{Bound, text_of, variable_of, resolving}
+use Rattle.dpl_memory.specs.Resolved.{Bound, variable_of, resolving}
 use Rattle.dpl_nodes.specs.declared.tree.BoolExpr.{BoolExpr}
 use Rattle.dpl_nodes.specs.declared.step.Step.{Step, Nothing as NothingStep, If as IfStep, While as WhileStep}
 use Rattle.dpl_nodes.specs.declared.step.Intent.{Intent}
@@ -33,26 +33,22 @@ use Rattle.dpl_typer.specs.Sights.{bound_in, AreKnownScopes}
 use Rattle.dpl_planner.specs.declared.loops.Iterable.{Iterable}
 use Rattle.dpl_planner.specs.declared.progress.Plan.{Plan}
 use Rattle.dpl_planner.specs.declared.progress.Reducing.{Reducing}
-use Rattle.dpl_planner.specs.Bounds.{loop_variable, bound_variables, loop_type, bound_body, bound_else}
+use Rattle.dpl_planner.specs.Bounds.{loop_variable, bound_variables, loop_type, bound_body}
 use Rattle.dpl_planner.specs.Parts.{IsItem, AreTurnKinds, AreFresh, over_typed, IsCondition, IsOpened}
 use Rattle.dpl_planner.specs.Plans.{reducing_view, seen_of, AreOpen, intents_in, seen_in, Stands, body_leaves, else_leaves, PlansStmt, PlansBody, PlansElse}
-use Rattle.dpl_planner.proofs.Items.{item-text, item-node, item-fits, expr-text, condition-node, condition-fits}
-use Rattle.dpl_planner.proofs.Opened.{variables-text, turn-kind, variables-plain, variables-fit, inside-same, turns-suit}
+use Rattle.dpl_planner.proofs.Spelled.{both}
+use Rattle.dpl_planner.proofs.Items.{item-node, item-fits, condition-node, condition-fits}
+use Rattle.dpl_planner.proofs.Opened.{turn-kind, variables-plain, variables-fit, inside-same, turns-suit}
 use Rattle.dpl_planner.proofs.Scoped.{open-known, IsOverNone, single-over}
 use Rattle.dpl_planner.proofs.Bodies.{goes-back, goes-nowhere, goes-then, goes-left, body-at, else-at, left}
-use Rattle.dpl_planner.proofs.Mapped.{map_listed-back}
-
-both : {A B C : Type 0} (make : A → B → C) {a c : A} {b d : B} → a ≡ c → b ≡ d → make a b ≡ make c d
-both make {a = a} {d = d} p q = ap (make a) q ∙ ap (λ x. make x d) p
 
 pub nothing-plans : (a : Plan) (at : Place) → PlansStmt a a (Nothing at) NothingStep
-nothing-plans a at = record { goes = goes-nowhere a; text = refl; node = refl; resolves = λ start h le. tt }
+nothing-plans a at = record { goes = goes-nowhere a; node = refl; resolves = λ start h le. tt }
 
 pub while-plans : (a b : Plan) (at : Place) (spot : Bor Place) (e : ExprTree Text) (made : Bor BoolExpr) (body : Body Text) (steps : Bor (List Step))
     → spot.now ≡ at → IsCondition a.scopes e made → PlansBody a b body steps.now → PlansStmt a b (While at e body) (WhileStep spot made steps)
 while-plans a b at spot e made body steps near is p = record {
   goes = p.goes;
-  text = both (While at) (expr-text a.scopes e) p.text;
   node = ap (λ x. While x (lowered_expr known_variable Once (renamed_expr variable_of (renamed_expr (bound_in a.scopes) e))) (body_leaves (enter a.scopes) body)) (sym near)
       ∙ both (While spot.now) (condition-node a.scopes e made is) (p.node ∙ ap listed (sym (steps_view-row steps.now)));
   resolves = λ start h le. (condition-fits a.scopes e made is start (intents_in a) (open-known a.scopes h), p.resolves start h le);
@@ -64,7 +60,6 @@ if-plans a b c at e made first steps second other is p q =
     let r = else-at b c second other a.scopes a.intents.items p.goes.scopes p.goes.intents q in
     record {
       goes = goes-then a b c a.scopes a.scopes p.goes r.goes;
-      text = ap (λ x. If at x (renamed_body text_of (bound_body (enter a.scopes) first)) (renamed_else text_of (bound_else a.scopes second))) (expr-text a.scopes e) ∙ both (If at e) p.text r.text;
       node = ap (λ x. If nowhere x (body_leaves (enter a.scopes) first) (else_leaves a.scopes second)) (condition-node a.scopes e made is)
           ∙ both (If nowhere (truth_view made.now)) (p.node ∙ ap listed (sym (steps_view-row steps.now))) r.node;
       resolves = λ start h le.
@@ -105,7 +100,7 @@ module _ (at word : Place) (xs : VariablesTree Text) (item : ItemTree Text) (bod
 
   abbrev PlansFor : Option ValueType → Plan → Plan → Step → Type 0
   PlansFor t old new step =
-      Stands old new old.scopes (renamed_stmt text_of (bound_for t old.scopes) ≡ For at xs word item body) (lowered_stmt known_variable (renamed_stmt variable_of (bound_for t old.scopes)) ≡ step_view step)
+      Stands old new old.scopes (lowered_stmt known_variable (renamed_stmt variable_of (bound_for t old.scopes)) ≡ step_view step)
       (λ start. fits_stmt (resolving start) (bound_for t old.scopes) (seen_in old))
 
   pub for-plans : (a b c : Plan) (spot : Bor Place) (t : ValueType) (names : Names) (over : Iterable) (steps : Bor (List Step)) (s : Step)
@@ -121,8 +116,6 @@ module _ (at word : Place) (xs : VariablesTree Text) (item : ItemTree Text) (bod
       let turns = body_leaves (enter vs) body in
       let planned : PlansFor (Some t) a (left c) s = record {
         goes = goes-left a c vs (dropped (Some t) (variables_of xs) [] ss) q.goes.scopes (omega (arith, more, grown)) (q.goes.intents ∙ opened.intents);
-        text = ap (λ ys. For at ys word (renamed_item text_of (renamed_item (bound_in ss) item)) (renamed_body text_of (bound_body (enter vs) body))) (variables-text (Some t) (enter ss) xs)
-            ∙ both (For at xs word) (item-text ss item) q.text;
         node = ap (λ y. For y (lowered_variables (renamed_variables variable_of (bound_variables (Some t) (enter ss) xs))) nowhere items turns) (sym near)
             ∙ ap (λ ys. For spot.now ys nowhere items turns) (sym opened.node)
             ∙ both (For spot.now (names_view names) nowhere) (item-node ss item (over_typed over) is Once) q.node ∙ sym made;
@@ -136,15 +129,7 @@ module _ (at word : Place) (xs : VariablesTree Text) (item : ItemTree Text) (bod
       } in
       subst (λ o. PlansFor o a (left c) s) (sym typed) planned
 
--- reduce variables, with their names back
-with-text : (ss : Scopes) (w : Option (WithTree Text)) → option_map (renamed_with text_of) (option_map (renamed_with (bound_in ss)) w) ≡ w
-with-text ss None = refl
-with-text ss (Some w) = ap (λ is. Some (record { at = w.at; from = w.from; intents = is; upto = w.upto })) (map_listed-back (renamed_intent text_of) (renamed_intent (bound_in ss)) intent-text w.intents)
-  where
-    intent-text : (i : IntentTree Text) → renamed_intent text_of (renamed_intent (bound_in ss) i) ≡ i
-    intent-text (ReduceIntent at op word x) = refl
-    intent-text (RefIntent at x) = refl
-
+-- reduce variables
 module _ (ss : Scopes) (w : Option (WithTree Text)) (found : List Reducing) (named : map reducing_view found ≡ renamed_intents (bound_in ss) (intents_of w)) where
   abbrev bound_with : Option (WithTree Bound)
   bound_with = option_map (renamed_with (bound_in ss)) w
@@ -161,7 +146,7 @@ module _ (at word : Place) (xs : VariablesTree Text) (item : ItemTree Text) (w :
 
   abbrev PlansForall : Option ValueType → Plan → Plan → Step → Type 0
   PlansForall t old new step =
-      Stands old new old.scopes (renamed_stmt text_of (bound_forall t old.scopes) ≡ Forall at xs word item w body)
+      Stands old new old.scopes
       (lowered_stmt known_variable (renamed_stmt variable_of (bound_forall t old.scopes)) ≡ step_view step) (λ start. fits_stmt (resolving start) (bound_forall t old.scopes) (seen_in old))
 
   pub forall-plans : (a b c : Plan) (found none : Vec Reducing) (spot : Bor Place) (t : ValueType) (names : Names) (over : Iterable) (is : Bor (List Intent)) (steps : Bor (List Step)) (s : Step)
@@ -183,9 +168,6 @@ module _ (at word : Place) (xs : VariablesTree Text) (item : ItemTree Text) (w :
       let intents : map reducing_view found.items ≡ intents_of with = intents-bound ss w found.items named in
       let planned : PlansForall (Some t) a (record (left c) { intents = none }) s = record {
         goes = goes-back a (record (left c) { intents = none }) (ap (drop 1) q.goes.scopes ∙ dropped (Some t) (variables_of xs) [] ss) (omega (arith, more, grown)) (empty ∙ sym outside);
-        text = ap (λ ys. Forall at ys word (renamed_item text_of (renamed_item (bound_in ss) item)) (option_map (renamed_with text_of) with) (renamed_body text_of (bound_body (enter vs) body))) (variables-text (Some t) (enter ss) xs)
-            ∙ ap (λ v. Forall at xs word (renamed_item text_of (renamed_item (bound_in ss) item)) v (renamed_body text_of (bound_body (enter vs) body))) (with-text ss w)
-            ∙ both (λ i t. Forall at xs word i w t) (item-text ss item) q.text;
         node = ap (λ y. Forall y (lowered_variables (renamed_variables variable_of (bound_variables (Some t) (enter ss) xs))) nowhere items (with_intents reduced) turns) (sym near)
             ∙ ap (λ ys. Forall spot.now ys nowhere items (with_intents reduced) turns) (sym opened.node)
             ∙ ap (λ v. Forall spot.now (names_view names) nowhere items (with_intents v) turns) (intents-node ss w found.items named is.now unnamed)

@@ -10,7 +10,7 @@ use Rattle.dpl_rules.specs.Sights.{Scopes}
 use Rattle.dpl_lowered.specs.Shapes.{item_in_brackets}
 use Rattle.dpl_lowered.specs.LoweredStatements.{lowered_over, array_initial}
 use Rattle.dpl_memory.specs.Memory.{VariableKind, PlainKind, DomainKind, TupleKind, CellKind, ArrayKind, Variable, known_variable}
-use Rattle.dpl_memory.specs.Resolved.{Bound, Start, text_of, variable_of, resolving}
+use Rattle.dpl_memory.specs.Resolved.{Bound, Start, variable_of, resolving}
 use Rattle.dpl_nodes.specs.Spots.{IsNear}
 use Rattle.dpl_nodes.specs.declared.step.DeclaredOver.{DeclaredOver}
 use Rattle.dpl_nodes.specs.declared.step.Initial.{Initial}
@@ -34,7 +34,6 @@ pub record IsOver (ss : Scopes) (is : Items Text) (o : DeclaredOver) : Type 0 wh
 
 -- ---- THE ELEMENTS
 pub record IsArrayInitial (ss : Scopes) (k : Kind) (i : Option (InitialTree Text)) (b : Initial) : Type 0 where
-  pub text : option_map (renamed_initial text_of) (bound_initial ss i) ≡ i
   pub node : array_initial known_variable (option_map (renamed_initial variable_of) (bound_initial ss i)) ≡ initial_view b
   pub kind : initial_kind b ≡ k
   pub fits_here : (start : Start) (is : List (Bound × Op)) → AreKnownScopes ss

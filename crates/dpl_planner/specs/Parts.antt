@@ -7,7 +7,7 @@ use Rattle.dpl_language.specs.Tree.{Placed, Op, Assign, Kind, ExprTree, Named, I
 use Rattle.dpl_language.specs.Arithmetic.{assign_divides}
 use Rattle.dpl_language.specs.Names.{Text}
 use Rattle.dpl_language.specs.Declarations.{type_of}
-use Rattle.dpl_agreement.specs.Renamed.{renamed_stmt, renamed_expr, renamed_item, renamed_typed, renamed_initial, renamed_argument, renamed_variables}
+use Rattle.dpl_agreement.specs.Renamed.{renamed_expr, renamed_item, renamed_typed, renamed_initial, renamed_argument, renamed_variables}
 use Rattle.dpl_agreement.specs.Scopes.{PlainForm, form_by, fits as fits_stmt, fits_type, side_by, fits_initial, suits_declared, fits_arguments}
 use Rattle.dpl_tree.specs.declared.statement.NextArgument.{NextArgument}
 use Rattle.dpl_tree.specs.declared.statement.NextIntent.{NextIntent}
@@ -23,7 +23,7 @@ use Rattle.dpl_lowered.specs.LoweredExpressions.{Times, Once, lowered_expr, lowe
 use Rattle.dpl_lowered.specs.LoweredStatements.{default_tree, mapped_initial, ranked_type, written_type, tells_name, declared_type, declared_initial, lowered_argument, lowered_variables}
 use Rattle.dpl_words.specs.Words.{IntLeaf, TruthLeaf, RangeLeaf, LocaleLeaf}
 use Rattle.dpl_memory.specs.Memory.{VariableKind, PlainKind, DomainKind, TupleKind, CellKind, ArrayKind, Variable, variable, known_kind, known_variable}
-use Rattle.dpl_memory.specs.Resolved.{Bound, Seen, Start, text_of, variable_of, resolving}
+use Rattle.dpl_memory.specs.Resolved.{Bound, Seen, Start, variable_of, resolving}
 use Rattle.dpl_nodes.specs.declared.tree.BoolExpr.{BoolExpr}
 use Rattle.dpl_nodes.specs.declared.step.Argument.{Argument}
 use Rattle.dpl_nodes.specs.declared.step.Names.{Names}
@@ -198,9 +198,8 @@ bound_typed ss t = option_map (renamed_typed (bound_in ss)) t
 abbrev pub bound_initial : Scopes → Option (InitialTree Text) → Option (InitialTree Bound)
 bound_initial ss i = option_map (renamed_initial (bound_in ss)) i
 
--- such a type is spelled as it is, and its name is a plain variable's
+-- the name of such a type is a plain variable's
 pub record IsPlainTyped (ss : Scopes) (t : Option (TypedTree Text)) : Type 0 where
-  pub spelled : option_map (renamed_typed text_of) (bound_typed ss t) ≡ t
   pub untold : tells_name (type_of (option_map (renamed_typed variable_of) (bound_typed ss t))) ≡ false
   pub sort : form_by (type_of (bound_typed ss t)) ≡ PlainForm
   pub fits_here : (start : Start) (g : Seen) → fits_type (resolving start) (type_of (bound_typed ss t)) g
@@ -209,7 +208,6 @@ pub record IsPlainTyped (ss : Scopes) (t : Option (TypedTree Text)) : Type 0 whe
 -- type goes where a value is written, and a domain's says no more than its map.
 pub record IsInitial (ss : Scopes) (t : Option (TypedTree Text)) (i : Option (InitialTree Text)) (declared : ValueType) (b : Beginning) : Type 0 where
   pub type : IsPlainTyped ss t
-  pub text : option_map (renamed_initial text_of) (bound_initial ss i) ≡ i
   pub typed : (p : Placing) → IsPlacingOf ss (type_of t) i p → IsPlacedWith b p
       → option_map written_type (declared_type known_variable (type_of (option_map (renamed_typed variable_of) (bound_typed ss t))) (option_map (renamed_initial variable_of) (bound_initial ss i))) ≡ begun_type b p
   pub node : (p : Placing) → IsPlacingOf ss (type_of t) i p → IsPlacedWith b p
@@ -231,7 +229,7 @@ IsOwed start ss d = IsOwedBy d.config start (bound_new ss (declared_by ss d))
 -- a declaration, planned
 abbrev pub PlansDeclare : Plan → Plan → DeclareTree Text → Step → Type 0
 PlansDeclare old new d step =
-    Stands old new (behind old.scopes (Declare d)) (renamed_stmt text_of (bound_stmt old.scopes (Declare d)) ≡ Declare d) (stmt_leaves old.scopes (Declare d) ≡ step_view step)
+    Stands old new (behind old.scopes (Declare d)) (stmt_leaves old.scopes (Declare d) ≡ step_view step)
     (λ start. IsOwed start old.scopes d → fits_stmt (resolving start) (bound_stmt old.scopes (Declare d)) (seen_in old))
 
 -- ARGUMENTS: a whole array by its name
@@ -239,7 +237,6 @@ abbrev pub IsWholeArray : Scopes → ExprTree Text → Kind → ℕ → Type 0
 IsWholeArray ss e k slot = (x : Placed Text) × (e ≡ Named x) × (kind_in ss x.name ≡ Some (ArrayKind k)) × (slot_in ss x.name ≡ Some slot)
 
 pub record IsArgument (ss : Scopes) (a : ArgumentTree Text) (b : Argument) : Type 0 where
-  pub text : renamed_argument text_of (renamed_argument (bound_in ss) a) ≡ a
   pub node : lowered_argument known_variable (renamed_argument variable_of (renamed_argument (bound_in ss) a)) ≡ argument_view b
   pub fits_before : (start : Start) (is : List (Bound × Op)) (rest : List (ArgumentTree Bound)) → AreKnownScopes ss
       → fits_arguments (resolving start) rest (seen_of ss is) → fits_arguments (resolving start) (renamed_argument (bound_in ss) a ∷ rest) (seen_of ss is)

@@ -10,7 +10,7 @@ use Rattle.dpl_rules.specs.Loops.{behind}
 use Rattle.dpl_rules.specs.Sound.{behind_all}
 use Rattle.dpl_lowered.specs.LoweredStatements.{lowered_stmt, lowered_stmts, lowered_body, lowered_else}
 use Rattle.dpl_memory.specs.Memory.{Variable, known_variable}
-use Rattle.dpl_memory.specs.Resolved.{no_shape, Bound, Seen, Start, text_of, variable_of, resolving}
+use Rattle.dpl_memory.specs.Resolved.{no_shape, Bound, Seen, Start, variable_of, resolving}
 use Rattle.dpl_nodes.specs.declared.step.Step.{Step}
 use Rattle.dpl_nodes.specs.declared.step.Else.{Else as ElseNode}
 use Rattle.dpl_nodes.specs.Steps.{listed, intent_view, step_view, else_view, steps_of}
@@ -44,20 +44,20 @@ IsOneScope [] = ⊥
 IsOneScope (s ∷ []) = Unit {0}
 IsOneScope (s ∷ t ∷ ss) = ⊥
 
--- Behind a part these are the scopes, no slot is taken back, and the reduce variables are as before. What the top level's
--- names are owed behind it, they are owed before it.
+-- What the command line owes its names: each `config const` is set alike by its text and by its slot.
+abbrev pub AreOwed : Start → Scopes → Type 0
+AreOwed start ss = IsOneScope ss × AreGiven start ss
+
+-- Behind a part these are the scopes, no slot is taken back, and the reduce variables are as before.
 pub record Goes (old new : Plan) (to : Scopes) : Type 0 where
   pub scopes : new.scopes ≡ to
   pub plain : AreOpen old.scopes → AreOpen new.scopes
-  pub one : IsOneScope old.scopes → IsOneScope new.scopes
-  pub given : IsOneScope old.scopes → (start : Start) → AreGiven start new.scopes → AreGiven start old.scopes
   pub slots : old.slots ≤ new.slots
   pub intents : new.intents.items ≡ old.intents.items
 
--- a part, planned: it is spelled so, what is made of it is its lowered tree, and it fits a frame with as many slots
-pub record Stands (old new : Plan) (to : Scopes) (Spelled Lowered : Type 0) (Fits : Start → Type 0) : Type 0 where
+-- a part, planned: what is made of it is its lowered tree, and it fits a frame with as many slots
+pub record Stands (old new : Plan) (to : Scopes) (Lowered : Type 0) (Fits : Start → Type 0) : Type 0 where
   pub goes : Goes old new to
-  pub text : Spelled
   pub node : Lowered
   pub resolves : (start : Start) → AreOpen old.scopes → new.slots ≤ start.slots → Fits start
 
@@ -75,18 +75,18 @@ else_leaves ss o = lowered_else known_variable (renamed_else variable_of (bound_
 
 abbrev pub PlansStmt : Plan → Plan → StmtTree Text → Step → Type 0
 PlansStmt old new t step =
-    Stands old new (behind old.scopes t) (renamed_stmt text_of (bound_stmt old.scopes t) ≡ t) (stmt_leaves old.scopes t ≡ step_view step)
+    Stands old new (behind old.scopes t) (stmt_leaves old.scopes t ≡ step_view step)
     (λ start. fits_stmt (resolving start) (bound_stmt old.scopes t) (seen_in old))
 
 abbrev pub PlansStmts : Plan → Plan → Stmts Text → List Step → Type 0
 PlansStmts old new ts steps =
-    Stands old new (behind_all old.scopes ts) (renamed_stmts text_of (bound_stmts old.scopes ts) ≡ ts) (stmts_leaves old.scopes ts ≡ steps_of steps)
+    Stands old new (behind_all old.scopes ts) (stmts_leaves old.scopes ts ≡ steps_of steps)
     (λ start. fits_all (resolving start) (bound_stmts old.scopes ts) (seen_in old))
 
 -- a statement as a list of one
 abbrev pub PlansOnly : Plan → Plan → StmtTree Text → List Step → Type 0
 PlansOnly old new t steps =
-    Stands old new (behind old.scopes t) (renamed_stmt text_of (bound_stmt old.scopes t) ≡ t) (Then (stmt_leaves old.scopes t) NoStmts ≡ steps_of steps)
+    Stands old new (behind old.scopes t) (Then (stmt_leaves old.scopes t) NoStmts ≡ steps_of steps)
     (λ start. fits_stmt (resolving start) (bound_stmt old.scopes t) (seen_in old))
 
 -- a body, in the scope that was opened for it
@@ -96,28 +96,27 @@ behind_body ss (BlockBody from ts upto) = behind_all ss ts
 
 abbrev pub PlansInner : Plan → Plan → Body Text → List Step → Type 0
 PlansInner old new b steps =
-    Stands old new (behind_body old.scopes b) (renamed_body text_of (bound_body old.scopes b) ≡ b) (body_leaves old.scopes b ≡ listed (steps_of steps))
+    Stands old new (behind_body old.scopes b) (body_leaves old.scopes b ≡ listed (steps_of steps))
     (λ start. fits_body (resolving start) (bound_body old.scopes b) (seen_in old))
 
 -- a body in a scope of its own, and what stands behind `else`
 abbrev pub PlansBody : Plan → Plan → Body Text → List Step → Type 0
 PlansBody old new b steps =
-    Stands old new old.scopes (renamed_body text_of (bound_body (enter old.scopes) b) ≡ b) (body_leaves (enter old.scopes) b ≡ listed (steps_of steps))
+    Stands old new old.scopes (body_leaves (enter old.scopes) b ≡ listed (steps_of steps))
     (λ start. fits_body (resolving start) (bound_body (enter old.scopes) b) (seen_of (enter old.scopes) (intents_in old)))
 
 abbrev pub PlansElse : Plan → Plan → Else Text → ElseNode → Type 0
 PlansElse old new o other =
-    Stands old new old.scopes (renamed_else text_of (bound_else old.scopes o) ≡ o) (else_leaves old.scopes o ≡ else_view other)
+    Stands old new old.scopes (else_leaves old.scopes o ≡ else_view other)
     (λ start. fits_else (resolving start) (bound_else old.scopes o) (seen_in old))
 
--- A statement of the top level, and all of them: each `config const` is set alike by its text and by its slot.
+-- A statement of the top level, and all of them: they fit where the command line gives what it owes the scopes behind them.
 abbrev pub PlansTop : Plan → Plan → StmtTree Text → Step → Type 0
 PlansTop old new t step =
-    Stands old new (behind old.scopes t) (renamed_stmt text_of (bound_stmt old.scopes t) ≡ t) (stmt_leaves old.scopes t ≡ step_view step)
-    (λ start. AreGiven start new.scopes → fits_stmt (resolving start) (bound_stmt old.scopes t) (seen_in old))
+    Stands old new (behind old.scopes t) (stmt_leaves old.scopes t ≡ step_view step)
+    (λ start. AreOwed start new.scopes → fits_stmt (resolving start) (bound_stmt old.scopes t) (seen_in old))
 
 abbrev pub PlansTops : Plan → Plan → Stmts Text → List Step → Type 0
 PlansTops old new ts steps =
-    IsOneScope old.scopes
-    → Stands old new (behind_all old.scopes ts) (renamed_stmts text_of (bound_stmts old.scopes ts) ≡ ts) (stmts_leaves old.scopes ts ≡ steps_of steps)
-    (λ start. AreGiven start new.scopes → fits_all (resolving start) (bound_stmts old.scopes ts) (seen_in old))
+    Stands old new (behind_all old.scopes ts) (stmts_leaves old.scopes ts ≡ steps_of steps)
+    (λ start. AreOwed start new.scopes → fits_all (resolving start) (bound_stmts old.scopes ts) (seen_in old))

@@ -3,20 +3,20 @@
 
 ghost use Rattle.std.specs.Prelude.{◌≡◌, ◌≤◌, IfOk, Err, []};
 ghost use Rattle.dpl_agreement.specs.Renamed.{renamed_program};
-ghost use Rattle.dpl_agreement.specs.Scopes.{fits_all, after_all};
+ghost use Rattle.dpl_agreement.specs.Scopes.{fits_all};
 ghost use Rattle.dpl_tree.specs.Statements.{stmt_view, stmts_of, program_view};
 ghost use Rattle.dpl_rules.specs.Breaches.{top};
 ghost use Rattle.dpl_rules.specs.Sound.{behind_all};
 ghost use Rattle.dpl_lowered.specs.LoweredStatements.{lowered_program};
 ghost use Rattle.dpl_memory.specs.Memory.{known_variable};
-ghost use Rattle.dpl_memory.specs.Resolved.{Start, text_of, variable_of, first_seen, resolving};
+ghost use Rattle.dpl_memory.specs.Resolved.{Start, variable_of, first_seen, resolving};
 ghost use Rattle.dpl_nodes.specs.Steps.{steps_of};
-ghost use Rattle.dpl_typer.specs.Sights.{sight_of, AreKnownScopes};
+ghost use Rattle.dpl_typer.specs.Sights.{AreKnownScopes};
 ghost use Rattle.dpl_planner.specs.Bounds.{bound_program};
 ghost use Rattle.dpl_planner.specs.Given.{AreGiven};
 ghost use Rattle.dpl_nodes.specs.declared.stop.NoNode.TheVariants as stop;
 ghost use Rattle.dpl_runnable.specs.Runnable.{IsRunnableTop, AreRunnableTops};
-ghost use Rattle.dpl_planner.specs.Plans.{intents_in, IsOneScope, PlansTop, PlansTops};
+ghost use Rattle.dpl_planner.specs.Plans.{intents_in, PlansTop, PlansTops};
 
 use crate::declaration::declare;
 use crate::progress::{Plan, list, push};
@@ -59,8 +59,7 @@ fn top_stmt<'s, 't>(plan: &mut Plan<'s, 't>, written: &Stmt<'s>) -> Result<Step<
 // The statements of the top level.
 fn top_stmts<'s, 't>(plan: &mut Plan<'s, 't>, stmts: &[Stmt<'s>]) -> Result<&'t [Step<'t>], NoNode>
     ensures plans { IfOk result (λ steps. PlansTops plan.old plan.new (stmts_of stmts.now) steps.now) }
-    ensures ill_typed { (result ≡ Err stop.IllTyped) → IsOneScope plan.old.scopes → (intents_in plan.old ≡ [])
-        → AreRunnableTops plan.old.scopes (stmts_of stmts.now) → ⊥ }
+    ensures ill_typed { (result ≡ Err stop.IllTyped) → (intents_in plan.old ≡ []) → AreRunnableTops plan.old.scopes (stmts_of stmts.now) → ⊥ }
 {
     let mut steps = Vec::new(plan.arena.alloc());
     for next in stmts {
@@ -78,14 +77,11 @@ fn top_stmts<'s, 't>(plan: &mut Plan<'s, 't>, stmts: &[Stmt<'s>]) -> Result<&'t 
 /// variables; a name that isn't in sight, or is declared twice in one scope; a value of another kind or another shape than its place
 /// takes; a map beside what is no domain, or of which an argument is of a type that the rules refuse.
 pub fn plan<'s, 't>(arena: Arena<'t>, program: &Program<'s>) -> Result<Planned<'s, 't>, NoNode>
-    ensures text { IfOk result (λ p. renamed_program text_of (bound_program (program_view program.now)) ≡ program_view program.now) }
     ensures steps { IfOk result (λ p. (lowered_program known_variable (renamed_program variable_of (bound_program (program_view program.now)))).stmts
         ≡ steps_of p.steps.now) }
     ensures fits { IfOk result (λ p. (start : Start) → p.slots ≤ start.slots → AreGiven start p.scopes
         → fits_all (resolving start) (bound_program (program_view program.now)).stmts first_seen) }
     ensures scopes { IfOk result (λ p. p.scopes ≡ behind_all top (stmts_of program.now.stmts.now)) }
-    ensures left { IfOk result (λ p. (start : Start) → (after_all (resolving start) (bound_program (program_view program.now)).stmts first_seen).frames
-        ≡ sight_of p.scopes) }
     ensures plain { IfOk result (λ p. AreKnownScopes p.scopes) }
     ensures ill_typed { (result ≡ Err stop.IllTyped) → AreRunnableTops top (stmts_of program.now.stmts.now) → ⊥ }
 {

@@ -1,4 +1,4 @@
--- The plan that the planner gives, from its clauses; and that the sets of a program without a refusal fit it.
+-- The plan that the planner gives, from its clauses and two laws of trees; and that the sets of a program without a refusal fit it.
 -- A `config const` in sight is a plain variable, and has a slot.
 use Rattle.std.proofs.Common.{◌≡◌, ℕ, ◌≤◌, List, [], Bool, true, false, Option, Some, None, is_some, refl, sym, ap, ◌∙◌, subst}
 use Rattle.std.proofs.Math.Nat.{le_refl}
@@ -6,7 +6,7 @@ use Rattle.dpl_syntax.specs.declared.refusal.Breach.{Breach}
 use Rattle.dpl_language.specs.Tree.{ProgramTree}
 use Rattle.dpl_language.specs.Names.{Text}
 use Rattle.dpl_agreement.specs.Renamed.{renamed_program}
-use Rattle.dpl_agreement.specs.Scopes.{fits_all, after_all}
+use Rattle.dpl_agreement.specs.Scopes.{fits_all}
 use Rattle.dpl_rules.specs.Sights.{Declared, Scopes, lookup, type_declared}
 use Rattle.dpl_rules.specs.Breaches.{top, first_breach}
 use Rattle.dpl_rules.specs.Sound.{behind_all, sets_fit, refusal_by, refusal}
@@ -15,14 +15,16 @@ use Rattle.dpl_scopes.proofs.Slots.{slot_in-lookup}
 use Rattle.dpl_lowered.specs.LoweredStatements.{lowered_program}
 use Rattle.dpl_words.specs.Words.{LeafKind}
 use Rattle.dpl_memory.specs.Memory.{PlainKind, known_variable}
-use Rattle.dpl_memory.specs.Resolved.{text_of, variable_of, Start, first_seen, resolving}
+use Rattle.dpl_memory.specs.Resolved.{variable_of, Start, first_seen, resolving}
 use Rattle.dpl_nodes.specs.declared.step.Step.{Step}
 use Rattle.dpl_nodes.specs.Steps.{steps_of}
 use Rattle.dpl_typer.specs.Leaves.{kind_by, kind_in, leaf_by}
 use Rattle.dpl_typer.specs.Shapes.{shape_in}
-use Rattle.dpl_typer.specs.Sights.{bound_in, sight_of, AreKnownScopes}
+use Rattle.dpl_typer.specs.Sights.{bound_in, AreKnownScopes}
 use Rattle.dpl_planner.specs.Bounds.{bound_program}
 use Rattle.dpl_planner.specs.Given.{IsGiven, IsConfig, AreGiven}
+use Rattle.dpl_planner.proofs.Spelled.{program-spelled}
+use Rattle.dpl_planner.proofs.Programs.{program-left}
 use Rattle.dpl_run.specs.Plans.{IsPlan, IsGivenAlike}
 
 some-slot : (o : Option ℕ) → is_some o ≡ true → (slot : ℕ) × (o ≡ Some slot)
@@ -43,16 +45,15 @@ configured-given start ss x alike (Some d) found config =
 are-given : (start : Start) (ss : Scopes) → IsGivenAlike ss start → AreGiven start ss
 are-given start ss alike x config = configured-given start ss x alike (lookup ss x) refl config
 
-pub planned : (t : ProgramTree Text) (slots : ℕ) (scopes : Scopes) (steps : List Step) → renamed_program text_of (bound_program t) ≡ t → (lowered_program known_variable (renamed_program variable_of (bound_program t))).stmts ≡ steps_of steps
+pub planned : (t : ProgramTree Text) (slots : ℕ) (scopes : Scopes) (steps : List Step) → (lowered_program known_variable (renamed_program variable_of (bound_program t))).stmts ≡ steps_of steps
     → ((start : Start) → slots ≤ start.slots → AreGiven start scopes → fits_all (resolving start) (bound_program t).stmts first_seen)
-    → ((start : Start) → (after_all (resolving start) (bound_program t).stmts first_seen).frames ≡ sight_of scopes)
     → scopes ≡ behind_all top t.stmts → AreKnownScopes scopes → IsPlan t slots scopes steps
-planned t slots scopes steps text nodes fits sight behind plain = record {
+planned t slots scopes steps nodes fits behind plain = record {
   resolved = bound_program t;
-  text = text;
+  text = program-spelled t;
   nodes = nodes;
   fits = λ start same alike. fits start (subst (λ n. slots ≤ n) (sym same) (le_refl slots)) (are-given start scopes alike);
-  sight = sight;
+  sight = program-left t scopes behind plain;
   behind = behind;
   plain = plain;
 }

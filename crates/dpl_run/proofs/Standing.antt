@@ -16,14 +16,15 @@ use Rattle.dpl_memory.specs.Resolved.{text_of, variable_of}
 use Rattle.dpl_nodes.specs.declared.step.Step.{Step}
 use Rattle.dpl_nodes.specs.Steps.{steps_of}
 use Rattle.dpl_planner.specs.Bounds.{bound_program}
+use Rattle.dpl_planner.proofs.Spelled.{program-spelled}
 
 breach-none : (b : Option Breach) (fit : Bool) → refusal_by b fit ≡ None → b ≡ None
 breach-none None fit e = refl
 breach-none (Some b) fit e = absurd cc
 
-pub plan-stands : (t : ProgramTree Text) (sets : List (List ℕ)) (steps : List Step) → UntaskedStmts t.stmts → refusal t sets ≡ None → renamed_program text_of (bound_program t) ≡ t
+pub plan-stands : (t : ProgramTree Text) (sets : List (List ℕ)) (steps : List Step) → UntaskedStmts t.stmts → refusal t sets ≡ None
     → (lowered_program known_variable (renamed_program variable_of (bound_program t))).stmts ≡ steps_of steps → AllMayStand Outside (steps_of steps)
-plan-stands t sets steps untasked unrefused text nodes =
+plan-stands t sets steps untasked unrefused nodes =
     subst (AllMayStand Outside) nodes
     (resolved-stands text_of variable_of known_variable t (bound_program t) untasked
-    (refused-none t (breach-none (first_breach t) (sets_fit (behind_all top t.stmts) [] sets) unrefused)) text)
+    (refused-none t (breach-none (first_breach t) (sets_fit (behind_all top t.stmts) [] sets) unrefused)) (program-spelled t))

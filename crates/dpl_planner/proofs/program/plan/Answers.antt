@@ -1,18 +1,17 @@
--- What is in sight at the end is what the walk of the resolved program leaves.
--- It begins in one scope and without reduce variables, as a program that runs does.
+-- A program begins without a name and without reduce variables, as one that runs does.
 use Rattle.std.proofs.Common.{rules, ◌≡◌, map, sym, ap, subst, Err}
 use Rattle.dpl_tree.specs.Statements.{stmts_of, program_view}
 use Rattle.dpl_nodes.specs.declared.stop.NoNode.TheVariants as stop
 use Rattle.dpl_runnable.specs.Runnable.{AreRunnableTops}
-use Rattle.dpl_planner.specs.Plans.{reducing_view, IsOneScope}
-use Rattle.dpl_planner.proofs.Programs.{program-left}
+use Rattle.dpl_planner.specs.Plans.{reducing_view}
+use Rattle.dpl_planner.proofs.Programs.{program-fits}
 use Rattle.dpl_planner.proofs.program.plan.Goals as goal
 
-pub returns-clause-left : goal.returns-clause-left
-returns-clause-left c = program-left c.in_ok-plan.plan c.top_stmts.new.plan (program_view c.args.program.now) c.in_ok-steps.steps.now c.in_ok-plan.ensures.scopes c.in_ok-plan.ensures.intents c.in_ok-steps.ensures.plans
+pub returns-clause-fits : goal.returns-clause-fits
+returns-clause-fits c = program-fits c.in_ok-plan.plan c.top_stmts.new.plan (program_view c.args.program.now) c.in_ok-steps.steps.now c.in_ok-plan.ensures.scopes c.in_ok-plan.ensures.intents c.in_ok-steps.ensures.plans
 
 pub returns-in_err-steps-clause-ill_typed : goal.returns-in_err-steps-clause-ill_typed
 returns-in_err-steps-clause-ill_typed c = λ e h.
     let refused : c.top_stmts.result ≡ Err stop.IllTyped = search rules in
     let begun = sym c.in_ok-plan.ensures.scopes in
-    c.top_stmts.ensures.ill_typed refused (subst IsOneScope begun tt) (ap (map reducing_view) c.in_ok-plan.ensures.intents) (subst (λ ss. AreRunnableTops ss (stmts_of c.args.program.now.stmts.now)) begun h)
+    c.top_stmts.ensures.ill_typed refused (ap (map reducing_view) c.in_ok-plan.ensures.intents) (subst (λ ss. AreRunnableTops ss (stmts_of c.args.program.now.stmts.now)) begun h)

@@ -130,7 +130,7 @@ stmts-loop-next-preserved t c =
     record {
       still = subst (λ made. Still nothing old (stmts_of all) c.stmt.new.plan (stmts_of (drop (at.next-index + 1) all)) made) (sym c.in_ok-push.ensures.more)
           (still-at nothing old (stmts_of all) all at.next-index x at.plan c.stmt.new.plan c.in_ok-step.step at.steps.items c.loop-next-test.true c.next-item.is
-          (λ start u. tt) at.invariant.still (asked-nothing at.plan c.stmt.new.plan (stmt_view x) c.in_ok-step.step planned));
+          (λ t ss start opened known u. tt) at.invariant.still (asked-nothing at.plan c.stmt.new.plan (stmt_view x) c.in_ok-step.step planned));
       runnable = still_runnable-at old (stmts_of all) all at.next-index x at.plan c.stmt.new.plan c.loop-next-test.true c.next-item.is at.invariant.runnable planned.goes;
     }
 
