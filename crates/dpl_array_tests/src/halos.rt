@@ -6,17 +6,17 @@ ghost use Rattle.std.specs.Prelude.{◌≡◌};
 use crate::made::{block, count, cyclic, domain, in_blocks, index, squares};
 use dpl_array::DArray;
 use dpl_domain::{Domain, Index};
-use dpl_halo::{Halo, Loan, Shift, Step};
+use dpl_halo::{Halo, Loan, Shift, Subscript};
 use dpl_map::Map;
 use std::alloc::Global;
 use std::process::Abort;
 
-pub(crate) fn shift(rt: &impl Abort, constant: i64) -> Shift {
-    let step = Step {
-        position: 0,
-        constant,
+pub(crate) fn shift(rt: &impl Abort, offset: i64) -> Shift {
+    let subscript = Subscript {
+        coordinate: 0,
+        offset,
     };
-    Shift::new(&[step]).expect(rt, "one step makes a shift")
+    Shift::new(&[subscript]).expect(rt, "one subscript makes a shift")
 }
 
 // The halo of the reads before and behind a turn, by a distance.
