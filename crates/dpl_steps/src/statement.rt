@@ -7,7 +7,7 @@ ghost use Rattle.dpl_language.specs.Outcome.{Deeds, repeated};
 ghost use Rattle.dpl_language.specs.Statements.{exec, exec_all, exec_else, holds};
 ghost use Rattle.dpl_memory.specs.Memory.{in_memory};
 ghost use Rattle.dpl_nodes.specs.Typed.{truth_view, range_item};
-ghost use Rattle.dpl_language.specs.Tree.{For as ForTree};
+ghost use Rattle.dpl_language.specs.Tree.{For as ForTree, If as IfTree};
 ghost use Rattle.dpl_lowered.specs.Shapes.{nowhere};
 ghost use Rattle.dpl_nodes.specs.Steps.{listed, variable_in};
 ghost use Rattle.dpl_frame.specs.Faults.{as_range};
@@ -18,7 +18,7 @@ ghost use Rattle.dpl_values.specs.Reductions.{MayRefuseReduction, EachInRange};
 ghost use Rattle.dpl_readings.specs.Readings.{step_in, else_in, steps_in};
 ghost use Rattle.dpl_elements.specs.Turns.{in_turn, turn_in_memory, looped_over};
 
-use crate::change::change_int;
+use crate::change::direct_number;
 use crate::context::Context;
 use crate::declare::declare_array;
 use crate::domain::{declare_domain, set_domain};
@@ -77,8 +77,10 @@ pub fn run<'t, C: Context>(
     Ok(())
 }
 
-// One statement.
+// One statement. The four kinds that loops are made of come first, without the room that others need; and what is done to an int is done at
+// once where its number is found directly, so that it needs none for what may go wrong.
 #[cycle(run)]
+#[inline(always)]
 fn statement<'t, C: Context>(
     step: &Step<'t>,
     context: &C,
@@ -91,8 +93,43 @@ fn statement<'t, C: Context>(
     ensures limits { frame.new.limits ≡ frame.old.limits }
 {
     match step {
+        Step::Int(deed, slot, e) => {
+            let Some(number) = direct_number(deed, *slot, e, frame) else {
+                return any_statement(step, context, frame, out);
+            };
+            frame.set_number(*slot, number);
+            Ok(())
+        }
+        Step::If {
+            condition,
+            body,
+            otherwise,
+        } => branch(condition, body, otherwise, context, frame, out),
+        Step::Truth(target, e) => simple::truth(target, e, frame, context),
+        Step::SetElement(name, t, op, sign, e) => simple::element(
+            name, t, *op, sign, e, frame, context,
+        ),
+        _ => any_statement(step, context, frame, out),
+    }
+}
+
+// A statement of any kind.
+#[cycle(run)]
+#[inline(never)]
+fn any_statement<'t, C: Context>(
+    step: &Step<'t>,
+    context: &C,
+    frame: &mut Frame<C::Kept>,
+    out: &mut C::Out,
+) -> Result<(), RunStop>
+    requires ready { C.is_ready context.now }
+    ensures ends { (done : Deeds) → RunsTo (MayRefuseSome (C.may_refuse context.now)) result frame.new.memory (C.having out.new done)
+        (exec frame.old.limits in_memory (step_in C.standing step.now) frame.old.memory (C.having out.old done)) }
+    ensures limits { frame.new.limits ≡ frame.old.limits }
+{
+    match step {
         Step::Nothing => Ok(()),
-        Step::Int(deed, slot, e) => change_int(deed, *slot, e, frame, context),
+        Step::Int(deed, slot, e) => simple::int(deed, *slot, e, frame, context),
         Step::DeclareRange(slot, e) => simple::range(*slot, e, frame, context),
         Step::SetRange(slot, e) => simple::range(*slot, e, frame, context),
         Step::Truth(target, e) => simple::truth(target, e, frame, context),
@@ -115,13 +152,7 @@ fn statement<'t, C: Context>(
             condition,
             body,
             otherwise,
-        } => {
-            if truth_value(condition, frame, context)?.get() {
-                run(body, context, frame, out)
-            } else {
-                alternative(otherwise, context, frame, out)
-            }
-        }
+        } => branch(condition, body, otherwise, context, frame, out),
         Step::While {
             at,
             condition,
@@ -156,7 +187,31 @@ fn statement<'t, C: Context>(
     }
 }
 
-// A `for`. The loops are functions of their own, so that a statement that holds no other needs no place for theirs.
+// An `if`.
+#[cycle(run)]
+#[inline(never)]
+fn branch<'t, C: Context>(
+    condition: &BoolExpr<'t>,
+    body: &[Step<'t>],
+    otherwise: &Else<'t>,
+    context: &C,
+    frame: &mut Frame<C::Kept>,
+    out: &mut C::Out,
+) -> Result<(), RunStop>
+    requires ready { C.is_ready context.now }
+    ensures ends { (done : Deeds) → RunsTo (MayRefuseSome (C.may_refuse context.now)) result frame.new.memory (C.having out.new done)
+        (exec frame.old.limits in_memory (IfTree nowhere (truth_view condition.now) (listed (steps_in C.standing body.now))
+        (else_in C.standing otherwise.now)) frame.old.memory (C.having out.old done)) }
+    ensures limits { frame.new.limits ≡ frame.old.limits }
+{
+    if truth_value(condition, frame, context)?.get() {
+        run(body, context, frame, out)
+    } else {
+        alternative(otherwise, context, frame, out)
+    }
+}
+
+// A `for`. Branches and loops are functions of their own, so that a statement that holds no other needs no place for theirs.
 #[cycle(run)]
 #[inline(never)]
 fn for_loop<'t, C: Context>(

@@ -5,7 +5,7 @@ use Rattle.std.proofs.lemmas.Result.{err_from_is_err_and}
 use Rattle.dpl_sets.specs.Ranges.{members_of}
 use Rattle.dpl_language.specs.Tree.{One, Set}
 use Rattle.dpl_language.specs.Values.{Truth}
-use Rattle.dpl_language.specs.Outcome.{then_do, in_order, repeated}
+use Rattle.dpl_language.specs.Outcome.{Done, then_do, in_order, repeated}
 use Rattle.dpl_language.specs.Expressions.{value_of}
 use Rattle.dpl_language.specs.Statements.{holds, exec, exec_all}
 use Rattle.dpl_lowered.specs.Shapes.{nowhere}
@@ -16,6 +16,7 @@ use Rattle.dpl_contents.specs.Range.{range_word}
 use Rattle.dpl_frame.specs.Frames.{Framed}
 use Rattle.dpl_readings.specs.Readings.{step_in, else_in, steps_in}
 use Rattle.dpl_elements.specs.Turns.{turn_in_memory, index_turn}
+use Rattle.dpl_elements.specs.Changes.{ends_as}
 use Rattle.dpl_nodes.proofs.Unread.{cell_read-int, item_read-range}
 use Rattle.dpl_array.proofs.WalkLemmas.{walk-next, walk-end}
 use Rattle.dpl_loop.proofs.Ends.{then_do-halts, halts-alike, ends-alike}
@@ -28,19 +29,44 @@ use Rattle.dpl_readings.proofs.Views.{for_each_in, forall_in, block_in, if_in, w
 use Rattle.dpl_steps.proofs.+run.Goals as goal
 
 -- DECLARATIONS AND ASSIGNMENTS
-pub statement::statement-returns-in-Int-clause-ends : goal.statement::statement-returns-in-Int-clause-ends
-statement::statement-returns-in-Int-clause-ends g t c done =
+pub statement::statement-returns-in-Some-clause-ends : goal.statement::statement-returns-in-Some-clause-ends
+statement::statement-returns-in-Some-clause-ends g t c done =
     let having = g.C.Context.having in
     let standing = g.C.Context.standing in
     let limits = c.args.frame.now.limits in
     let w = c.args.frame.now.memory in
     let d = having c.args.out.now done in
-    gives-ends _ c.change_int.result c.change_int.new.frame.memory d _ _
-    (ap (λ s. exec limits in_memory (step_in standing s) w d) c.in-Int.is ∙ exec-int limits c.in-Int.deed c.in-Int.slot (One (int_view c.in-Int.e.now)) w d (cell_read-int c.in-Int.e.now))
-    c.change_int.ensures.memory
+    ap (λ s. exec limits in_memory (step_in standing s) w d) c.in-Int.is
+    ∙ exec-int limits c.in-Int.deed c.in-Int.slot (One (int_view c.in-Int.e.now)) w d (cell_read-int c.in-Int.e.now)
+    ∙ ap (λ m. ends_as m d) c.in-Some.ensures
+    ∙ ap (λ (f : Framed). Done f.memory d) (sym c.set_number.ensures)
 
-pub statement::statement-returns-in-DeclareRange-clause-ends : goal.statement::statement-returns-in-DeclareRange-clause-ends
-statement::statement-returns-in-DeclareRange-clause-ends g t c done =
+pub statement::statement-returns-in-Truth-clause-ends : goal.statement::statement-returns-in-Truth-clause-ends
+statement::statement-returns-in-Truth-clause-ends g t c done =
+    let having = g.C.Context.having in
+    let standing = g.C.Context.standing in
+    let d = having c.args.out.now done in
+    ends-alike _ c.truth.result c.truth.new.frame.memory d _ _
+    (ap (λ s. exec c.args.frame.now.limits in_memory (step_in standing s) c.args.frame.now.memory d) c.in-Truth.is) (c.truth.ensures.ends d)
+
+pub statement::statement-returns-in-SetElement-clause-ends : goal.statement::statement-returns-in-SetElement-clause-ends
+statement::statement-returns-in-SetElement-clause-ends g t c done =
+    let having = g.C.Context.having in
+    let standing = g.C.Context.standing in
+    let d = having c.args.out.now done in
+    ends-alike _ c.element.result c.element.new.frame.memory d _ _
+    (ap (λ s. exec c.args.frame.now.limits in_memory (step_in standing s) c.args.frame.now.memory d) c.in-SetElement.is) (c.element.ensures.ends d)
+
+pub statement::any_statement-returns-in-Int-clause-ends : goal.statement::any_statement-returns-in-Int-clause-ends
+statement::any_statement-returns-in-Int-clause-ends g t c done =
+    let having = g.C.Context.having in
+    let standing = g.C.Context.standing in
+    let d = having c.args.out.now done in
+    ends-alike _ c.int.result c.int.new.frame.memory d _ _
+    (ap (λ s. exec c.args.frame.now.limits in_memory (step_in standing s) c.args.frame.now.memory d) c.in-Int.is) (c.int.ensures.ends d)
+
+pub statement::any_statement-returns-in-DeclareRange-clause-ends : goal.statement::any_statement-returns-in-DeclareRange-clause-ends
+statement::any_statement-returns-in-DeclareRange-clause-ends g t c done =
     let having = g.C.Context.having in
     let standing = g.C.Context.standing in
     let limits = c.args.frame.now.limits in
@@ -50,8 +76,8 @@ statement::statement-returns-in-DeclareRange-clause-ends g t c done =
     (ap (λ s. exec limits in_memory (step_in standing s) w d) c.in-DeclareRange.is ∙ exec-declared limits RangeLeaf c.in-DeclareRange.slot (range_item c.in-DeclareRange.e.now) w d (item_read-range c.in-DeclareRange.e.now))
     (c.range.ensures.ends d)
 
-pub statement::statement-returns-in-SetRange-clause-ends : goal.statement::statement-returns-in-SetRange-clause-ends
-statement::statement-returns-in-SetRange-clause-ends g t c done =
+pub statement::any_statement-returns-in-SetRange-clause-ends : goal.statement::any_statement-returns-in-SetRange-clause-ends
+statement::any_statement-returns-in-SetRange-clause-ends g t c done =
     let having = g.C.Context.having in
     let standing = g.C.Context.standing in
     let limits = c.args.frame.now.limits in
@@ -61,8 +87,8 @@ statement::statement-returns-in-SetRange-clause-ends g t c done =
     (ap (λ s. exec limits in_memory (step_in standing s) w d) c.in-SetRange.is ∙ exec-assigned limits RangeLeaf c.in-SetRange.slot Set nowhere (range_item c.in-SetRange.e.now) w d (item_read-range c.in-SetRange.e.now))
     (c.range-in-SetRange.ensures.ends d)
 
-pub statement::statement-returns-in-Truth-clause-ends : goal.statement::statement-returns-in-Truth-clause-ends
-statement::statement-returns-in-Truth-clause-ends g t c done =
+pub statement::any_statement-returns-in-Truth-clause-ends : goal.statement::any_statement-returns-in-Truth-clause-ends
+statement::any_statement-returns-in-Truth-clause-ends g t c done =
     let having = g.C.Context.having in
     let standing = g.C.Context.standing in
     let d = having c.args.out.now done in
@@ -109,24 +135,24 @@ statement::turns-loop-k-preserved g t c =
     }
 
 -- DOMAINS AND ARRAYS
-pub statement::statement-returns-in-DeclareDomain-clause-ends : goal.statement::statement-returns-in-DeclareDomain-clause-ends
-statement::statement-returns-in-DeclareDomain-clause-ends g t c done =
+pub statement::any_statement-returns-in-DeclareDomain-clause-ends : goal.statement::any_statement-returns-in-DeclareDomain-clause-ends
+statement::any_statement-returns-in-DeclareDomain-clause-ends g t c done =
     let having = g.C.Context.having in
     let standing = g.C.Context.standing in
     let d = having c.args.out.now done in
     ends-alike _ c.declare_domain.result c.declare_domain.new.frame.memory d _ _
     (ap (λ s. exec c.args.frame.now.limits in_memory (step_in standing s) c.args.frame.now.memory d) c.in-DeclareDomain.is) (c.declare_domain.ensures.ends d)
 
-pub statement::statement-returns-in-SetDomain-clause-ends : goal.statement::statement-returns-in-SetDomain-clause-ends
-statement::statement-returns-in-SetDomain-clause-ends g t c done =
+pub statement::any_statement-returns-in-SetDomain-clause-ends : goal.statement::any_statement-returns-in-SetDomain-clause-ends
+statement::any_statement-returns-in-SetDomain-clause-ends g t c done =
     let having = g.C.Context.having in
     let standing = g.C.Context.standing in
     let d = having c.args.out.now done in
     ends-alike _ c.set_domain.result c.set_domain.new.frame.memory d _ _
     (ap (λ s. exec c.args.frame.now.limits in_memory (step_in standing s) c.args.frame.now.memory d) c.in-SetDomain.is) (c.set_domain.ensures.ends d)
 
-pub statement::statement-returns-in-DeclareArray-clause-ends : goal.statement::statement-returns-in-DeclareArray-clause-ends
-statement::statement-returns-in-DeclareArray-clause-ends g t c done =
+pub statement::any_statement-returns-in-DeclareArray-clause-ends : goal.statement::any_statement-returns-in-DeclareArray-clause-ends
+statement::any_statement-returns-in-DeclareArray-clause-ends g t c done =
     let having = g.C.Context.having in
     let standing = g.C.Context.standing in
     let d = having c.args.out.now done in
@@ -134,24 +160,24 @@ statement::statement-returns-in-DeclareArray-clause-ends g t c done =
     (some-of-array _ c.args.frame.now c.in-DeclareArray.declared.now)
     (ap (λ s. exec c.args.frame.now.limits in_memory (step_in standing s) c.args.frame.now.memory d) c.in-DeclareArray.is) (c.declare_array.ensures.ends d)
 
-pub statement::statement-returns-in-SetElement-clause-ends : goal.statement::statement-returns-in-SetElement-clause-ends
-statement::statement-returns-in-SetElement-clause-ends g t c done =
+pub statement::any_statement-returns-in-SetElement-clause-ends : goal.statement::any_statement-returns-in-SetElement-clause-ends
+statement::any_statement-returns-in-SetElement-clause-ends g t c done =
     let having = g.C.Context.having in
     let standing = g.C.Context.standing in
     let d = having c.args.out.now done in
     ends-alike _ c.element.result c.element.new.frame.memory d _ _
     (ap (λ s. exec c.args.frame.now.limits in_memory (step_in standing s) c.args.frame.now.memory d) c.in-SetElement.is) (c.element.ensures.ends d)
 
-pub statement::statement-returns-in-SetArray-clause-ends : goal.statement::statement-returns-in-SetArray-clause-ends
-statement::statement-returns-in-SetArray-clause-ends g t c done =
+pub statement::any_statement-returns-in-SetArray-clause-ends : goal.statement::any_statement-returns-in-SetArray-clause-ends
+statement::any_statement-returns-in-SetArray-clause-ends g t c done =
     let having = g.C.Context.having in
     let standing = g.C.Context.standing in
     let d = having c.args.out.now done in
     ends-wider _ _ c.set_array.result c.set_array.new.frame.memory d _ _ (some-of-whole _ c.args.frame.now (EachInInts c.in-SetArray.e.now) _ _)
     (ap (λ s. exec c.args.frame.now.limits in_memory (step_in standing s) c.args.frame.now.memory d) c.in-SetArray.is) (c.set_array.ensures.ends d)
 
-pub statement::statement-returns-in-SetTruthArray-clause-ends : goal.statement::statement-returns-in-SetTruthArray-clause-ends
-statement::statement-returns-in-SetTruthArray-clause-ends g t c done =
+pub statement::any_statement-returns-in-SetTruthArray-clause-ends : goal.statement::any_statement-returns-in-SetTruthArray-clause-ends
+statement::any_statement-returns-in-SetTruthArray-clause-ends g t c done =
     let having = g.C.Context.having in
     let standing = g.C.Context.standing in
     let d = having c.args.out.now done in
@@ -159,8 +185,8 @@ statement::statement-returns-in-SetTruthArray-clause-ends g t c done =
     (ap (λ s. exec c.args.frame.now.limits in_memory (step_in standing s) c.args.frame.now.memory d) c.in-SetTruthArray.is) (c.set_truth_array.ensures.ends d)
 
 -- BLOCKS, BRANCHES AND LOOPS
-pub statement::statement-returns-in-Block-clause-ends : goal.statement::statement-returns-in-Block-clause-ends
-statement::statement-returns-in-Block-clause-ends g t c done =
+pub statement::any_statement-returns-in-Block-clause-ends : goal.statement::any_statement-returns-in-Block-clause-ends
+statement::any_statement-returns-in-Block-clause-ends g t c done =
     let having = g.C.Context.having in
     let standing = g.C.Context.standing in
     let limits = c.args.frame.now.limits in
@@ -170,22 +196,44 @@ statement::statement-returns-in-Block-clause-ends g t c done =
     (ap (λ s. exec limits in_memory (step_in standing s) w d) c.in-Block.is ∙ ap (λ t. exec limits in_memory t w d) (block_in standing c.in-Block.steps) ∙ scoped-same (exec_all limits in_memory (steps_in standing c.in-Block.steps.now)) w d)
     (c.run.ensures.ends done)
 
-pub statement::statement-returns-then-get-clause-ends : goal.statement::statement-returns-then-get-clause-ends
-statement::statement-returns-then-get-clause-ends g t c done =
+pub statement::statement-returns-in-If-clause-ends : goal.statement::statement-returns-in-If-clause-ends
+statement::statement-returns-in-If-clause-ends g t c done =
     let having = g.C.Context.having in
     let standing = g.C.Context.standing in
     let limits = c.args.frame.now.limits in
     let w = c.args.frame.now.memory in
     let d = having c.args.out.now done in
-    let holding : c.in_ok-truth_value-in-If.field-0 ≡ true = search rules in
-    ends-alike _ c.run-then-get.result c.run-then-get.new.frame.memory (having c.run-then-get.new.out done) _ _
+    ends-alike _ c.branch.result c.branch.new.frame.memory (having c.branch.new.out done) _ _
     (ap (λ s. exec limits in_memory (step_in standing s) w d) c.in-If.is
-    ∙ ap (λ t. exec limits in_memory t w d) (if_in standing c.in-If.condition c.in-If.body c.in-If.otherwise)
-    ∙ if-then limits (truth_view c.in-If.condition.now) (steps_in standing c.in-If.body.now) (else_in standing c.in-If.otherwise) w d (c.in_ok-truth_value-in-If.ensures ∙ ap (λ b. Ok (Truth b)) holding))
-    (c.run-then-get.ensures.ends done)
+    ∙ ap (λ t. exec limits in_memory t w d) (if_in standing c.in-If.condition c.in-If.body c.in-If.otherwise))
+    (c.branch.ensures.ends done)
 
-pub statement::statement-returns-in-While-clause-ends : goal.statement::statement-returns-in-While-clause-ends
-statement::statement-returns-in-While-clause-ends g t c done =
+pub statement::any_statement-returns-in-If-clause-ends : goal.statement::any_statement-returns-in-If-clause-ends
+statement::any_statement-returns-in-If-clause-ends g t c done =
+    let having = g.C.Context.having in
+    let standing = g.C.Context.standing in
+    let limits = c.args.frame.now.limits in
+    let w = c.args.frame.now.memory in
+    let d = having c.args.out.now done in
+    ends-alike _ c.branch.result c.branch.new.frame.memory (having c.branch.new.out done) _ _
+    (ap (λ s. exec limits in_memory (step_in standing s) w d) c.in-If.is
+    ∙ ap (λ t. exec limits in_memory t w d) (if_in standing c.in-If.condition c.in-If.body c.in-If.otherwise))
+    (c.branch.ensures.ends done)
+
+pub statement::branch-returns-then-get-clause-ends : goal.statement::branch-returns-then-get-clause-ends
+statement::branch-returns-then-get-clause-ends g t c done =
+    let having = g.C.Context.having in
+    let standing = g.C.Context.standing in
+    let limits = c.args.frame.now.limits in
+    let w = c.args.frame.now.memory in
+    let d = having c.args.out.now done in
+    let holding : c.in_ok-truth_value.field-0 ≡ true = search rules in
+    ends-alike _ c.run.result c.run.new.frame.memory (having c.run.new.out done) _ _
+    (if-then limits (truth_view c.args.condition.now) (steps_in standing c.args.body.now) (else_in standing c.args.otherwise.now) w d (c.in_ok-truth_value.ensures ∙ ap (λ b. Ok (Truth b)) holding))
+    (c.run.ensures.ends done)
+
+pub statement::any_statement-returns-in-While-clause-ends : goal.statement::any_statement-returns-in-While-clause-ends
+statement::any_statement-returns-in-While-clause-ends g t c done =
     let having = g.C.Context.having in
     let standing = g.C.Context.standing in
     let limits = c.args.frame.now.limits in
@@ -197,8 +245,8 @@ statement::statement-returns-in-While-clause-ends g t c done =
     ∙ exec-while limits c.in-While.at.now (truth_view c.in-While.condition.now) (steps_in standing c.in-While.body.now) w d)
     (c.while_loop.ensures.ends done)
 
-pub statement::statement-returns-in-For-clause-ends : goal.statement::statement-returns-in-For-clause-ends
-statement::statement-returns-in-For-clause-ends g t c done =
+pub statement::any_statement-returns-in-For-clause-ends : goal.statement::any_statement-returns-in-For-clause-ends
+statement::any_statement-returns-in-For-clause-ends g t c done =
     let having = g.C.Context.having in
     let standing = g.C.Context.standing in
     let limits = c.args.frame.now.limits in
@@ -209,8 +257,8 @@ statement::statement-returns-in-For-clause-ends g t c done =
     ∙ ap (λ t. exec limits in_memory t w d) (for_in standing c.in-For.at c.in-For.slot c.in-For.over c.in-For.body))
     (c.for_loop.ensures.ends done)
 
-pub statement::statement-returns-in-Forall-clause-ends : goal.statement::statement-returns-in-Forall-clause-ends
-statement::statement-returns-in-Forall-clause-ends g t c done =
+pub statement::any_statement-returns-in-Forall-clause-ends : goal.statement::any_statement-returns-in-Forall-clause-ends
+statement::any_statement-returns-in-Forall-clause-ends g t c done =
     let having = g.C.Context.having in
     let standing = g.C.Context.standing in
     let limits = c.args.frame.now.limits in
@@ -300,8 +348,8 @@ statement::while_loop-returns-clause-ends g t c done =
     (holds-value limits e w false (ap (λ l. value_of l in_memory e None w) (sym c.loop-left.invariant.limits) ∙ c.in_ok-truth_value.ensures ∙ ap (λ b. Ok (Truth b)) holding))
 
 -- LOOPS OVER DOMAINS
-pub statement::statement-returns-in-ForEach-clause-ends : goal.statement::statement-returns-in-ForEach-clause-ends
-statement::statement-returns-in-ForEach-clause-ends g t c done =
+pub statement::any_statement-returns-in-ForEach-clause-ends : goal.statement::any_statement-returns-in-ForEach-clause-ends
+statement::any_statement-returns-in-ForEach-clause-ends g t c done =
     let having = g.C.Context.having in
     let standing = g.C.Context.standing in
     let limits = c.args.frame.now.limits in
@@ -312,8 +360,8 @@ statement::statement-returns-in-ForEach-clause-ends g t c done =
     ∙ ap (λ t. exec limits in_memory t w d) (for_each_in standing c.in-ForEach.at c.in-ForEach.names c.in-ForEach.over c.in-ForEach.body))
     (c.for_each.ensures.ends done)
 
-pub statement::statement-returns-in-ForallEach-clause-ends : goal.statement::statement-returns-in-ForallEach-clause-ends
-statement::statement-returns-in-ForallEach-clause-ends g t c done =
+pub statement::any_statement-returns-in-ForallEach-clause-ends : goal.statement::any_statement-returns-in-ForallEach-clause-ends
+statement::any_statement-returns-in-ForallEach-clause-ends g t c done =
     let having = g.C.Context.having in
     let standing = g.C.Context.standing in
     let limits = c.args.frame.now.limits in
