@@ -1,5 +1,5 @@
 // The values of ints, truth values, ranges, domains and indices over a frame, or the fault with the turn that it names; reductions ask a gate.
-// Each is the walk of its expression, for which a place for the turn stands ready.
+// Ints and truth values are first looked for directly. All else is the walk of its expression, for which a place for the turn stands ready.
 
 ghost use Rattle.std.specs.Prelude.{◌≡◌, Ok};
 ghost use Rattle.dpl_language.specs.Values.{Int, Truth as TruthValue, Domain as DomainValue};
@@ -9,7 +9,7 @@ ghost use Rattle.dpl_values.specs.Elements.{sized_or};
 ghost use Rattle.dpl_values.specs.Reductions.{MayRefuseReduction, EachInInt, EachInTruth, EachInRange, EachInRanges, EachInIndex, EachInDomain, EachInInts, EachInTruths};
 ghost use Rattle.dpl_values.specs.Meanings.{int_in, truth_in, range_in, domain_in, index_in, literal_in, int_at, truth_at};
 
-use crate::direct::direct_truth;
+use crate::direct::{direct_int, direct_truth};
 use crate::expression::operand;
 use crate::team::Team;
 use crate::{expression, promoted};
@@ -21,6 +21,23 @@ use dpl_nodes::{
     Spot,
 };
 
+// An int by a walk.
+#[inline(never)]
+fn walked_int<G: Team>(
+    e: &IntExpr<'_>,
+    frame: &Frame<G::Kept>,
+    gate: &G,
+) -> Result<i64, RunStop>
+    requires ready { G.is_ready gate.now }
+    ensures { Gives (MayRefuseReduction (G.may_refuse gate.now) frame.now (EachInInt e.now)) Int result (int_in frame.now e.now) }
+{
+    let mut turn = Turn::Absent;
+    match operand(e, frame, gate, &mut turn) {
+        Ok(value) => Ok(value),
+        Err(alarm) => Err(RunStop::of(alarm, &turn)),
+    }
+}
+
 /// The value of an int.
 ///
 /// # Errors
@@ -31,10 +48,9 @@ pub fn int_value<G: Team>(e: &IntExpr<'_>, frame: &Frame<G::Kept>, gate: &G) -> 
     requires ready { G.is_ready gate.now }
     ensures { Gives (MayRefuseReduction (G.may_refuse gate.now) frame.now (EachInInt e.now)) Int result (int_in frame.now e.now) }
 {
-    let mut turn = Turn::Absent;
-    match operand(e, frame, gate, &mut turn) {
-        Ok(value) => Ok(value),
-        Err(alarm) => Err(RunStop::of(alarm, &turn)),
+    match direct_int(e, frame) {
+        Some(value) => Ok(value),
+        None => walked_int(e, frame, gate),
     }
 }
 
