@@ -1,10 +1,11 @@
 // What stands in each dimension of something: up to three things, kept in three fields.
-// An index keeps its coordinates so, and a domain its ranges; a grid can keep its extents so, and a map its rules.
+// An index keeps its coordinates so, and a domain its ranges; a grid can keep its extents so, a map its rules, and a shifted read its subscripts.
 
 ghost use Rattle.std.specs.Prelude.{pos, ⊤, ◌≡◌, ◌≤◌, ◌↔◌, [], length, slice_get, IsSome, IfSome};
 ghost use Rattle.dpl_domain.specs.Ranks.{last_of, point, IsFilled};
 
 use dpl_range::Range;
+use dpl_sets::Subscript;
 use std::alloc::AllocError;
 use std::marker::Model;
 
@@ -41,6 +42,20 @@ impl Unused for Range {
 
     fn unused() -> Range {
         Range::new(0, 0, 1).unwrap()
+    }
+}
+
+/// A subscript that a shifted read does not have takes the first coordinate as it is.
+impl Unused for Subscript {
+    ghost use Rattle.dpl_sets.specs.Subscripts.{subscript};
+
+    ghost unused = { subscript 0 (pos 0) };
+
+    fn unused() -> Subscript {
+        Subscript {
+            coordinate: 0,
+            offset: 0,
+        }
     }
 }
 

@@ -1,13 +1,13 @@
 -- How many elements the foralls of a run read that other locales own.
 -- The run's record says which foralls were entered, over which domain, and what each name was then; the text says what a
 -- forall writes, and which arrays it reads at its own index moved by numbers.
-use Rattle.std.specs.Prelude.{ℕ, ◌%◌, ◌^◌, nat_lt, if◌then◌else◌, List, [], ◌∷◌, map, length, sum_by, Option, Some, None}
+use Rattle.std.specs.Prelude.{ℕ, ◌%◌, ◌^◌, nat_lt, if◌then◌else◌, List, [], ◌∷◌, length, sum_by, Option, Some, None}
 use Rattle.dpl_sets.specs.TextDomains.{values_of}
+use Rattle.dpl_sets.specs.declared.subscript.Subscript.{Subscript}
 use Rattle.dpl_syntax.specs.declared.place.Place.{Place}
 use Rattle.dpl_history.specs.declared.history.Event.{Event}
 use Rattle.dpl_map.specs.Maps.{AxisValue, whole_map, locales}
 use Rattle.dpl_array.specs.Arrays.{ArrayValue, filled_array, counted}
-use Rattle.dpl_halo.specs.declared.shift.Step.{Step}
 use Rattle.dpl_halo.specs.Halos.{remote}
 use Rattle.dpl_layout.specs.Layouts.{LayoutValue}
 use Rattle.dpl_frame.specs.Roots.{map_of_root}
@@ -23,22 +23,19 @@ use Rattle.dpl_language.specs.Program.{first_state, deeds_of}
 use Rattle.dpl_rules.specs.Types.{Origin, same_origin}
 use Rattle.dpl_rules.specs.Bodies.{is_in, written_arrays}
 use Rattle.dpl_rules.specs.Foralls.{ForallIn, scope_in, deeds_in, all_foralls}
-use Rattle.dpl_rules.specs.Shifts.{Shift, shifted_reads}
+use Rattle.dpl_rules.specs.Shifts.{shifted_reads}
 use Rattle.dpl_rules.specs.Breaches.{same_place, top}
 
 -- ---- what a forall's text reads at its own index moved by numbers
-abbrev pub step_of : Shift → Step
-step_of s = record { position = s.coordinate; constant = s.offset }
-
 -- the arrays of some reads, each once
-abbrev pub arrays_read : List (Origin × List Shift) → List Origin
+abbrev pub arrays_read : List (Origin × List Subscript) → List Origin
 arrays_read [] = []
 arrays_read (r ∷ rs) = if is_in r.0 (arrays_read rs) then arrays_read rs else r.0 ∷ arrays_read rs
 
 -- the reads of one of them
-abbrev pub reads_of : Origin → List (Origin × List Shift) → List (List Step)
+abbrev pub reads_of : Origin → List (Origin × List Subscript) → List (List Subscript)
 reads_of o [] = []
-reads_of o (r ∷ rs) = if same_origin o r.0 then map step_of r.1 ∷ reads_of o rs else reads_of o rs
+reads_of o (r ∷ rs) = if same_origin o r.0 then r.1 ∷ reads_of o rs else reads_of o rs
 
 -- ---- a forall that was entered
 module _ (layout : LayoutValue) (l : LoopRun) where
@@ -58,7 +55,7 @@ module _ (layout : LayoutValue) (l : LoopRun) where
   array_named x = filled_array (values_of (ranges_in (l.value x))) (name_map x) tt
 
   -- its remote elements, of each locale that makes turns
-  abbrev pub array_count : List AxisValue → List (Origin × List Shift) → Origin → ℕ
+  abbrev pub array_count : List AxisValue → List (Origin × List Subscript) → Origin → ℕ
   array_count turns reads o =
       sum_by (λ locale. length (remote (array_named o.name) (values_of l.over) turns locale (reads_of o reads)))
       (counted 0 (locales turns))

@@ -4,11 +4,11 @@ use Rattle.std.proofs.Common.{◌≡◌, ◌⊎◌, ◌&&◌, ◌^◌, ℕ, ℤ,
 use Rattle.std.proofs.lemmas.Int.{ints, by_lt_z}
 use Rattle.dpl_sets.specs.Ranges.{RangeValue, IsBound}
 use Rattle.dpl_sets.specs.Indices.{indices}
+use Rattle.dpl_sets.specs.declared.subscript.Subscript.{Subscript}
 use Rattle.dpl_map.specs.Maps.{owner}
 use Rattle.dpl_array.specs.Elements.{value_at}
 use Rattle.dpl_array.specs.Arrays.{ArrayValue}
 use Rattle.dpl_array.specs.Rows.{StandsIn}
-use Rattle.dpl_halo.specs.declared.shift.Step.{Step}
 use Rattle.dpl_halo.specs.Gathering.{GatheredValue, IsGathered, AddsForeign}
 use Rattle.dpl_halo.specs.Halos.{is_foreign}
 use Rattle.dpl_halo.specs.Listed.{is_listed}
@@ -37,7 +37,7 @@ gather-alike {T = T} a wants g xs ys same gathered = record {
         ∙ ap (λ b. cond (is_listed ys t && b) (value_at t a.elements) None) (sym is)
 
 -- what was looked at and what is left
-pub record IsRead {T : Type 0} (a : ArrayValue T) (locale : ℕ) (shift : List Step) (turns left : List RangeValue) (g h : GatheredValue T) : Type 0 where
+pub record IsRead {T : Type 0} (a : ArrayValue T) (locale : ℕ) (shift : List Subscript) (turns left : List RangeValue) (g h : GatheredValue T) : Type 0 where
   pub gone : List (List ℤ)
   pub domain : h.domain ≡ g.domain
   pub rank : length left ≡ length turns
@@ -50,7 +50,7 @@ map-append : {X Y : Type 0} (f : X → Y) (xs ys : List X) → map f (xs ++ ys) 
 map-append f [] ys = refl
 map-append f (x ∷ xs) ys = ap (λ zs. f x ∷ zs) (map-append f xs ys)
 
-module _ {T : Type 0} (a : ArrayValue T) (locale : ℕ) (shift : List Step) (turns : List RangeValue) (g : GatheredValue T) where
+module _ {T : Type 0} (a : ArrayValue T) (locale : ℕ) (shift : List Subscript) (turns : List RangeValue) (g : GatheredValue T) where
   pub read-first : IsRead a locale shift turns turns g g
   read-first = record {
     gone = [];

@@ -9,6 +9,7 @@ use Rattle.dpl_range.specs.Invariant.{IsRange}
 use Rattle.dpl_sets.specs.RangeSlices.{members_within}
 use Rattle.dpl_range.proofs.Ends.{Contains-slice_get}
 use Rattle.dpl_sets.specs.Indices.{tuples, indices, IsSmall}
+use Rattle.dpl_sets.specs.declared.subscript.Subscript.{Subscript}
 use Rattle.dpl_domain.specs.Ranks.{last_of, point, IsPadded}
 use Rattle.dpl_domain.proofs.PlaceLemmas.{fewer-indices, length-filter_le}
 use Rattle.dpl_map.specs.Boxes.{AreBetween}
@@ -18,8 +19,7 @@ use Rattle.dpl_array.proofs.Behind.{fits-between}
 use Rattle.dpl_array.specs.Rows.{StandsIn}
 use Rattle.dpl_array.proofs.RowLemmas.{filter-stands}
 use Rattle.dpl_array.proofs.UnionLemmas.{filter-test, stands-filter}
-use Rattle.dpl_halo.specs.declared.shift.Step.{Step}
-use Rattle.dpl_halo.specs.Turns.{IsNarrowed, AreCorners, KeepsStep, KeepsShift}
+use Rattle.dpl_halo.specs.Turns.{IsNarrowed, AreCorners, KeepsSubscript, KeepsShift}
 use Rattle.dpl_halo.proofs.ListedLemmas.{stands-flat, flat-stands, stands-map, map-stands}
 
 -- THE TUPLES OF A PRODUCT
@@ -209,17 +209,17 @@ pub bound-fits : (i : ℤ) → IsBound i → FitsSigned w64 i
 bound-fits (pos n) bound = record { sfits = omega (arith, ints, bound.1) }
 bound-fits (negsuc n) bound = record { sfits = omega (arith, ints, bound.0) }
 
-pub step-keeps : (step : Step) (low high : List ℤ) → FitsSigned w64 (slice_index_or low step.position (pos 0) +ℤ step.constant) → FitsSigned w64 (slice_index_or high step.position (pos 0) +ℤ step.constant) → KeepsStep step low high
-step-keeps step low high low_fits high_fits t between =
-    let at = between-at low t high step.position between in
-    let fits : FitsSigned w64 (slice_index_or t step.position (pos 0) +ℤ step.constant) =
-    fits-between (slice_index_or low step.position (pos 0) +ℤ step.constant) (slice_index_or t step.position (pos 0) +ℤ step.constant) (slice_index_or high step.position (pos 0) +ℤ step.constant) (omega (arith, ints, at.0)) (omega (arith, ints, at.1)) low_fits high_fits in
-    let first = int_wrap_fits w64 (slice_index_or low step.position (pos 0) +ℤ step.constant) low_fits in
-    let second = int_wrap_fits w64 (slice_index_or t step.position (pos 0) +ℤ step.constant) fits in
-    let third = int_wrap_fits w64 (slice_index_or high step.position (pos 0) +ℤ step.constant) high_fits in
+pub subscript-keeps : (subscript : Subscript) (low high : List ℤ) → FitsSigned w64 (slice_index_or low subscript.coordinate (pos 0) +ℤ subscript.offset) → FitsSigned w64 (slice_index_or high subscript.coordinate (pos 0) +ℤ subscript.offset) → KeepsSubscript subscript low high
+subscript-keeps subscript low high low_fits high_fits t between =
+    let at = between-at low t high subscript.coordinate between in
+    let fits : FitsSigned w64 (slice_index_or t subscript.coordinate (pos 0) +ℤ subscript.offset) =
+    fits-between (slice_index_or low subscript.coordinate (pos 0) +ℤ subscript.offset) (slice_index_or t subscript.coordinate (pos 0) +ℤ subscript.offset) (slice_index_or high subscript.coordinate (pos 0) +ℤ subscript.offset) (omega (arith, ints, at.0)) (omega (arith, ints, at.1)) low_fits high_fits in
+    let first = int_wrap_fits w64 (slice_index_or low subscript.coordinate (pos 0) +ℤ subscript.offset) low_fits in
+    let second = int_wrap_fits w64 (slice_index_or t subscript.coordinate (pos 0) +ℤ subscript.offset) fits in
+    let third = int_wrap_fits w64 (slice_index_or high subscript.coordinate (pos 0) +ℤ subscript.offset) high_fits in
     (rw (first, second) (omega (arith, ints, at.0)), rw (second, third) (omega (arith, ints, at.1)))
 
-module _ (o m i : Step) (low high : List ℤ) (first : KeepsStep o low high) (second : KeepsStep m low high) (third : KeepsStep i low high) where
+module _ (o m i : Subscript) (low high : List ℤ) (first : KeepsSubscript o low high) (second : KeepsSubscript m low high) (third : KeepsSubscript i low high) where
   pub shift-keeps : (rank : ℕ) → KeepsShift (last_of rank o m i) low high
   shift-keeps zero t between = tt
   shift-keeps (suc zero) t between = let c = third t between in (c.0, c.1, tt)

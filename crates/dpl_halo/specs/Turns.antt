@@ -2,9 +2,9 @@
 use Rattle.std.specs.Prelude.{◌↔◌, List, ℕ, ℤ, pos, neg_ℤ, ◌^◌, ◌≤ℤ◌, ◌<ℤ◌, slice_index_or}
 use Rattle.dpl_sets.specs.Ranges.{RangeValue}
 use Rattle.dpl_sets.specs.Indices.{indices}
+use Rattle.dpl_sets.specs.declared.subscript.Subscript.{Subscript}
 use Rattle.dpl_map.specs.Boxes.{AreBetween}
 use Rattle.dpl_array.specs.Rows.{StandsIn}
-use Rattle.dpl_halo.specs.declared.shift.Step.{Step}
 use Rattle.dpl_halo.specs.Shifts.{moved, shifted}
 
 -- a domain has those indices of another one whose coordinate in a dimension lies between two numbers
@@ -15,12 +15,12 @@ IsNarrowed d low high whole some = (t : List ℤ) → StandsIn (indices some) t 
 abbrev pub AreCorners : List RangeValue → List ℤ → List ℤ → Type 0
 AreCorners turns low high = (t : List ℤ) → StandsIn (indices turns) t → AreBetween low t high
 
--- a step keeps what lies between two turns between what they give
-abbrev pub KeepsStep : Step → List ℤ → List ℤ → Type 0
-KeepsStep step low high = (t : List ℤ) → AreBetween low t high → (moved low step ≤ℤ moved t step) × (moved t step ≤ℤ moved high step)
+-- a subscript keeps what lies between two turns between what they give
+abbrev pub KeepsSubscript : Subscript → List ℤ → List ℤ → Type 0
+KeepsSubscript s low high = (t : List ℤ) → AreBetween low t high → (moved low s ≤ℤ moved t s) × (moved t s ≤ℤ moved high s)
 
 -- and so does a shifted read
-abbrev pub KeepsShift : List Step → List ℤ → List ℤ → Type 0
+abbrev pub KeepsShift : List Subscript → List ℤ → List ℤ → Type 0
 KeepsShift shift low high = (t : List ℤ) → AreBetween low t high → AreBetween (shifted shift low) (shifted shift t) (shifted shift high)
 
 -- two numbers next to which bounds may stand on either side

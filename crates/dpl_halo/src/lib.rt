@@ -13,6 +13,7 @@ mod shift;
 mod turns;
 
 pub use dpl_map::NoMemory;
+pub use dpl_sets::Subscript;
 pub use halo::Halo;
 pub use loan::Loan;
-pub use shift::{Shift, Step};
+pub use shift::Shift;

@@ -1,80 +1,63 @@
 // Shifted reads: which index of an array a turn of a loop reads.
-// Each coordinate of the index is one of the turn's, with a constant added to it.
+// Each coordinate of the index is one of the turn's, with an offset added to it.
 
 ghost use Rattle.std.specs.Prelude.{◌≡◌, ◌↔◌, ◌+ℤ◌, pos, [], ◌∷◌, slice_index_or, IsTrue, IsSome, IfSome, FitsSigned};
 ghost use Rattle.std.specs.Int.{w64, int_wrap};
 ghost use Rattle.dpl_sets.specs.Indices.{IsRank};
 ghost use Rattle.dpl_halo.specs.Shifts.{moved, shifted};
-ghost use Rattle.dpl_halo.specs.Turns.{KeepsStep, KeepsShift};
+ghost use Rattle.dpl_halo.specs.Turns.{KeepsSubscript, KeepsShift};
 
-use dpl_domain::{Dimensions, Index, Unused};
+use dpl_domain::{Dimensions, Index};
+use dpl_sets::Subscript;
 use std::marker::Model;
 
-/// A coordinate of a shifted read: which coordinate of the turn it takes, counted from 0, and what it adds.
-#[derive(Clone, Copy, Debug, PartialEq, Eq)]
-pub struct Step {
-    /// The position among the turn's coordinates. Where the turn has fewer, 0 is taken.
-    pub position: u32,
-    /// What is added, with a sum that wraps.
-    pub constant: i64,
-}
-
-impl Unused for Step {
-    ghost use Rattle.dpl_halo.specs.Shifts.{standing};
-
-    ghost unused = { standing };
-
-    fn unused() -> Step {
-        Step {
-            position: 0,
-            constant: 0,
-        }
-    }
-}
-
-/// A shifted read, seen as the list of its one to three steps, one for each coordinate of the array.
+/// A shifted read, seen as the list of its one to three subscripts, one for each dimension of the array.
 #[derive(Clone, Copy, Debug)]
 pub struct Shift {
-    steps: Dimensions<Step>,
+    subscripts: Dimensions<Subscript>,
 }
 
 impl Model for Shift {
     ghost use Rattle.std.specs.Prelude.{List};
-    ghost use Rattle.dpl_halo.specs.declared.shift.Step.{Step};
+    ghost use Rattle.dpl_sets.specs.declared.subscript.Subscript.{Subscript};
 
-    ghost Value = { List Step };
+    ghost Value = { List Subscript };
 
     ghost use Rattle.dpl_sets.specs.Indices.{IsRank};
 
-    ghost view = { λ s. s.steps };
+    ghost view = { λ s. s.subscripts };
 
-    ghost invariant = { λ s. IsRank s.steps };
+    ghost invariant = { λ s. IsRank s.subscripts };
 
-    ghost inverse = { λ v. record { steps = v } };
+    ghost inverse = { λ v. record { subscripts = v } };
 }
 
 impl Shift {
-    /// The shifted read by these steps, if there are one to three of them.
-    pub fn new(steps: &[Step]) -> Option<Shift>
-        ensures rank { IsSome result ↔ IsRank steps.now }
-        ensures held { IfSome result (λ shift. shift ≡ steps.now) }
+    /// The shifted read by these subscripts, if there are one to three of them.
+    pub fn new(subscripts: &[Subscript]) -> Option<Shift>
+        ensures rank { IsSome result ↔ IsRank subscripts.now }
+        ensures held { IfSome result (λ shift. shift ≡ subscripts.now) }
     {
-        let steps = Dimensions::new(steps)?;
-        if steps.rank() == 0 {
+        let subscripts = Dimensions::new(subscripts)?;
+        if subscripts.rank() == 0 {
             return None;
         }
-        Some(Shift { steps })
+        Some(Shift { subscripts })
     }
 
     /// The index that it reads in a turn.
     pub fn index(&self, turn: Index) -> Index
         ensures { result ≡ shifted self.now turn }
     {
-        let (outer, middle, inner) = self.steps.places();
-        match self.steps.rank() {
-            1 => line(inner.of(turn)),
-            2 => plane(middle.of(turn), inner.of(turn)),
-            _ => space(outer.of(turn), middle.of(turn), inner.of(turn)),
+        let (outer, middle, inner) = self.subscripts.places();
+        match self.subscripts.rank() {
+            1 => line(coordinate_in(turn, inner)),
+            2 => plane(coordinate_in(turn, middle), coordinate_in(turn, inner)),
+            _ => space(
+                coordinate_in(turn, outer),
+                coordinate_in(turn, middle),
+                coordinate_in(turn, inner),
+            ),
         }
     }
 
@@ -82,43 +65,41 @@ impl Shift {
     pub(crate) fn keeps(&self, low: Index, high: Index) -> bool
         ensures { IsTrue result → KeepsShift self.now low high }
     {
-        let (outer, middle, inner) = self.steps.places();
-        if !outer.keeps(low, high) {
+        let (outer, middle, inner) = self.subscripts.places();
+        if !keeps(outer, low, high) {
             return false;
         }
-        if !middle.keeps(low, high) {
+        if !keeps(middle, low, high) {
             return false;
         }
-        inner.keeps(low, high)
+        keeps(inner, low, high)
     }
 
     // What is added to coordinate `d` of a turn for coordinate `k` of the index, if that one is made of it.
-    pub(crate) fn constant(&self, k: u32, d: u32) -> Option<i64> {
-        let step = self.steps.get(k)?;
-        if step.position != d {
+    pub(crate) fn offset(&self, k: u32, d: u32) -> Option<i64> {
+        let subscript = self.subscripts.get(k)?;
+        if subscript.coordinate != d {
             return None;
         }
-        Some(step.constant)
+        Some(subscript.offset)
     }
 }
 
-impl Step {
-    /// The coordinate that it gives in a turn.
-    pub fn of(&self, turn: Index) -> i64
-        ensures { result ≡ moved turn self.now }
-    {
-        sum(coordinate(turn, self.position), self.constant)
-    }
+// The coordinate that a subscript gives in a turn.
+fn coordinate_in(turn: Index, subscript: Subscript) -> i64
+    ensures { result ≡ moved turn subscript }
+{
+    sum(coordinate(turn, subscript.coordinate), subscript.offset)
+}
 
-    // Whether no sum wraps between two turns.
-    fn keeps(&self, low: Index, high: Index) -> bool
-        ensures { IsTrue result → KeepsStep self.now low high }
-    {
-        if !fits(coordinate(low, self.position), self.constant) {
-            return false;
-        }
-        fits(coordinate(high, self.position), self.constant)
+// Whether no sum of a subscript wraps between two turns.
+fn keeps(subscript: Subscript, low: Index, high: Index) -> bool
+    ensures { IsTrue result → KeepsSubscript subscript low high }
+{
+    if !fits(coordinate(low, subscript.coordinate), subscript.offset) {
+        return false;
     }
+    fits(coordinate(high, subscript.coordinate), subscript.offset)
 }
 
 // Whether a sum doesn't wrap.

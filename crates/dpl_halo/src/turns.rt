@@ -43,8 +43,8 @@ pub(crate) fn reach(shift: &Shift, own: &Domain, d: u32) -> (i64, i64)
 {
     let (mut low, mut high) = (-LIMIT, LIMIT);
     for k in 0..own.rank() {
-        if let (Some(constant), Some(range)) = (shift.constant(k, d), own.dim(k)) {
-            let (from, to) = moved_back(&range, constant);
+        if let (Some(offset), Some(range)) = (shift.offset(k, d), own.dim(k)) {
+            let (from, to) = moved_back(&range, offset);
             low = low.max(from);
             high = high.min(to);
         }
@@ -52,11 +52,11 @@ pub(crate) fn reach(shift: &Shift, own: &Domain, d: u32) -> (i64, i64)
     cut_points(low, high)
 }
 
-// The least and the greatest member of a range, moved back by a constant.
-fn moved_back(range: &Range, constant: i64) -> (i64, i64) {
+// The least and the greatest member of a range, moved back by an offset.
+fn moved_back(range: &Range, offset: i64) -> (i64, i64) {
     let low = range.low().unwrap_or(range.low_bound());
     let high = range.high().unwrap_or(range.high_bound());
-    (low.saturating_sub(constant), high.saturating_sub(constant))
+    (low.saturating_sub(offset), high.saturating_sub(offset))
 }
 
 // Two numbers as bounds, with room for one more on either side.

@@ -2,6 +2,8 @@
 -- Of each the array is told, and for each of its coordinates which of the turn's it takes and what it adds.
 use Rattle.std.proofs.Common.{◌≡◌, ℕ, List, [], ◌∷◌, refl, Some, None, true, false}
 use Rattle.std.specs.Prelude.{pos, negsuc, codes, flat_map}
+use Rattle.dpl_sets.specs.declared.subscript.Subscript.{Subscript}
+use Rattle.dpl_sets.specs.Subscripts.{subscript}
 use Rattle.dpl_language.specs.Tree.{Add, Assigned, BlockBody, Brackets, Chain, Declare, Divide, Element, FirstExpr, FirstItem, For, Grouped, If, ItemInit}
 use Rattle.dpl_language.specs.Tree.{Link, ManyVariables, Minus, Multiply, Named, NextItem, NoElse, NoExprs, NoItems, NoLinks, NoPosts, NoStmts, Number, One}
 use Rattle.dpl_language.specs.Tree.{OneVariable, Post, Postfixed, Prefixed, Remainder, Rounds, Set, SetAdd, Square, Subtract, Then, TruthWord, WordBody}
@@ -12,7 +14,7 @@ use Rattle.dpl_rules.specs.Sights.{Scopes}
 use Rattle.dpl_rules.specs.Foralls.{scope_in, deeds_in, foralls}
 use Rattle.dpl_rules.specs.Breaches.{top}
 use Rattle.dpl_rules.specs.Sound.{behind_all}
-use Rattle.dpl_rules.specs.Shifts.{Shift, shift, shifted_reads}
+use Rattle.dpl_rules.specs.Shifts.{shifted_reads}
 use Rattle.dpl_rules.proofs.House.{behind_house}
 
 -- a name of the house
@@ -23,7 +25,7 @@ abbrev house : Scopes
 house = behind_all top (behind_house NoStmts)
 
 -- the shifted reads of a forall
-abbrev shifts_of : StmtTree (List ℕ) → List (Origin × List Shift)
+abbrev shifts_of : StmtTree (List ℕ) → List (Origin × List Subscript)
 shifts_of t = flat_map (λ f. shifted_reads (scope_in f) (deeds_in f)) (foralls house t)
 
 -- forall i in D do C[i] = A[i-1] + A[i+1] + A[i];
@@ -36,7 +38,7 @@ neighbours : shifts_of
     (at 2 35) (FirstItem (One (Chain (Named (name (codes "i") (at 2 36))) (Link (at 2 37) Add (Number (at 2 38) (pos 1)) NoLinks)))
     NoItems) (at 2 39)) NoPosts)) (Link (at 2 41) Add (Postfixed (Named (name (codes "A") (at 2 43))) (Post (Brackets (at 2 44)
     (FirstItem (One (Named (name (codes "i") (at 2 45)))) NoItems) (at 2 46)) NoPosts)) NoLinks)))) (at 2 47))))
-    ≡ (origin (codes "A"), shift 0 (negsuc 0) ∷ []) ∷ (origin (codes "A"), shift 0 (pos 1) ∷ []) ∷ (origin (codes "A"), shift 0 (pos 0) ∷ []) ∷ []
+    ≡ (origin (codes "A"), subscript 0 (negsuc 0) ∷ []) ∷ (origin (codes "A"), subscript 0 (pos 1) ∷ []) ∷ (origin (codes "A"), subscript 0 (pos 0) ∷ []) ∷ []
 neighbours = refl
 
 -- forall i in D do C[i] = A[9-i] + A[1+i] + A[(i)+1] + A[i+(1)] + A[i+1-1] + A[i - -1] + A[i*2] + A[i/1] + A[i%8] + A[n] + A[n+1] + A[1];
@@ -80,7 +82,7 @@ brackets_round_an_index : shifts_of
     (at 2 30) (pos 1)) NoLinks))) (at 2 31))) NoItems) (at 2 32)) NoPosts)) (Link (at 2 34) Add (Postfixed (Named
     (name (codes "A") (at 2 36))) (Post (Rounds (at 2 37) (FirstExpr (Grouped (at 2 38) (One (Grouped (at 2 39) (One (Named
     (name (codes "i") (at 2 40)))) (at 2 41))) (at 2 42)) NoExprs) (at 2 43)) NoPosts)) NoLinks))) (at 2 44))))
-    ≡ (origin (codes "A"), shift 0 (pos 1) ∷ []) ∷ (origin (codes "A"), shift 0 (pos 0) ∷ []) ∷ []
+    ≡ (origin (codes "A"), subscript 0 (pos 1) ∷ []) ∷ (origin (codes "A"), subscript 0 (pos 0) ∷ []) ∷ []
 brackets_round_an_index = refl
 
 -- forall i in D do A[i] = A[i] + C[i+2];
@@ -91,7 +93,7 @@ an_array_that_is_written : shifts_of
     (at 2 26) (FirstItem (One (Named (name (codes "i") (at 2 27)))) NoItems) (at 2 28)) NoPosts)) (Link (at 2 30) Add (Postfixed
     (Named (name (codes "C") (at 2 32))) (Post (Brackets (at 2 33) (FirstItem (One (Chain (Named (name (codes "i") (at 2 34))) (Link
     (at 2 35) Add (Number (at 2 36) (pos 2)) NoLinks))) NoItems) (at 2 37)) NoPosts)) NoLinks))) (at 2 38))))
-    ≡ (origin (codes "C"), shift 0 (pos 2) ∷ []) ∷ []
+    ≡ (origin (codes "C"), subscript 0 (pos 2) ∷ []) ∷ []
 an_array_that_is_written = refl
 
 -- forall (i, j) in E do C[i] = B[j-1, i] + B[i, i+3] + B[i, 1];
@@ -107,7 +109,7 @@ two_variables : shifts_of
     (at 2 50)) NoPosts)) (Link (at 2 52) Add (Postfixed (Named (name (codes "B") (at 2 54))) (Post (Brackets (at 2 55) (FirstItem
     (One (Named (name (codes "i") (at 2 56)))) (NextItem (at 2 57) (One (Number (at 2 59) (pos 1))) NoItems)) (at 2 60)) NoPosts))
     NoLinks)))) (at 2 61))))
-    ≡ (origin (codes "B"), shift 1 (negsuc 0) ∷ shift 0 (pos 0) ∷ []) ∷ (origin (codes "B"), shift 0 (pos 0) ∷ shift 0 (pos 3) ∷ []) ∷ []
+    ≡ (origin (codes "B"), subscript 1 (negsuc 0) ∷ subscript 0 (pos 0) ∷ []) ∷ (origin (codes "B"), subscript 0 (pos 0) ∷ subscript 0 (pos 3) ∷ []) ∷ []
 two_variables = refl
 
 -- forall t in E { const x = B[t] + B((t)); }
@@ -118,7 +120,7 @@ a_tuple_name : shifts_of
     (name (codes "t") (at 2 29)))) NoItems) (at 2 30)) NoPosts)) (Link (at 2 32) Add (Postfixed (Named (name (codes "B") (at 2 34)))
     (Post (Rounds (at 2 35) (FirstExpr (Grouped (at 2 36) (One (Named (name (codes "t") (at 2 37)))) (at 2 38)) NoExprs) (at 2 39))
     NoPosts)) NoLinks))) None))) (at 2 40))) NoStmts) (at 2 42)))
-    ≡ (origin (codes "B"), shift 0 (pos 0) ∷ shift 1 (pos 0) ∷ []) ∷ (origin (codes "B"), shift 0 (pos 0) ∷ shift 1 (pos 0) ∷ []) ∷ []
+    ≡ (origin (codes "B"), subscript 0 (pos 0) ∷ subscript 1 (pos 0) ∷ []) ∷ (origin (codes "B"), subscript 0 (pos 0) ∷ subscript 1 (pos 0) ∷ []) ∷ []
 a_tuple_name = refl
 
 -- forall i in D { for j in D do C[i] += A[j] + A[i-4]; }
@@ -131,7 +133,7 @@ an_inner_loops_variable : shifts_of
     (at 2 42)) NoPosts)) (Link (at 2 44) Add (Postfixed (Named (name (codes "A") (at 2 46))) (Post (Brackets (at 2 47) (FirstItem
     (One (Chain (Named (name (codes "i") (at 2 48))) (Link (at 2 49) Subtract (Number (at 2 50) (pos 4)) NoLinks))) NoItems)
     (at 2 51)) NoPosts)) NoLinks))) (at 2 52)))) NoStmts) (at 2 54)))
-    ≡ (origin (codes "A"), shift 0 (negsuc 3) ∷ []) ∷ []
+    ≡ (origin (codes "A"), subscript 0 (negsuc 3) ∷ []) ∷ []
 an_inner_loops_variable = refl
 
 -- forall i in D { const x = A[i]; const i = 1; const y = A[i]; }
@@ -144,7 +146,7 @@ a_hidden_variable : shifts_of
     (at 2 46) true (name (codes "y") (at 2 52)) None (Some (initial (at 2 54) (ItemInit (One (Postfixed (Named
     (name (codes "A") (at 2 56))) (Post (Brackets (at 2 57) (FirstItem (One (Named (name (codes "i") (at 2 58)))) NoItems)
     (at 2 59)) NoPosts))) None))) (at 2 60))) NoStmts))) (at 2 62)))
-    ≡ (origin (codes "A"), shift 0 (pos 0) ∷ []) ∷ []
+    ≡ (origin (codes "A"), subscript 0 (pos 0) ∷ []) ∷ []
 a_hidden_variable = refl
 
 -- forall i in D { if false then C[i] = A[i-1]; }
@@ -155,5 +157,5 @@ a_condition_never_reached : shifts_of
     (Postfixed (Named (name (codes "A") (at 2 38))) (Post (Brackets (at 2 39) (FirstItem (One (Chain (Named
     (name (codes "i") (at 2 40))) (Link (at 2 41) Subtract (Number (at 2 42) (pos 1)) NoLinks))) NoItems) (at 2 43)) NoPosts)))
     (at 2 44))) NoElse) NoStmts) (at 2 46)))
-    ≡ (origin (codes "A"), shift 0 (negsuc 0) ∷ []) ∷ []
+    ≡ (origin (codes "A"), subscript 0 (negsuc 0) ∷ []) ∷ []
 a_condition_never_reached = refl

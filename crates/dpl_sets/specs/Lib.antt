@@ -10,3 +10,5 @@ pub mod IndexTexts
 pub mod DomainSlices
 pub mod Expansions
 pub mod TextDomains
+-- What a shifted read takes of an index.
+pub mod Subscripts

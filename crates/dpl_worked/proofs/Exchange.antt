@@ -212,6 +212,11 @@ hidden_array : remote_by four (codes "const D = {1..8} dmapped new blockDist({1.
 unfolding on_locales
 hidden_array = refl
 
+-- and the array that is written first may be the one that hides another: its map counts
+hidden_array_written : remote_by four (codes "const D = {1..8} dmapped new blockDist({1..8}); const E = {1..8} dmapped new cyclicDist(1); var A: [D] int; var C: [E] int; { var C: [D] int; forall i in D[2..7] do C[i] = A[i-1]; }") ≡ Some 3
+unfolding on_locales
+hidden_array_written = refl
+
 -- ---- which foralls count, and how often
 twice_in_a_for : remote_by four (codes "const D = {1..8} dmapped new blockDist(boundingBox={1..8}); var A: [D] int; var B: [D] int; for k in 1..2 do forall i in D[2..7] do B[i] = A[i-1];") ≡ Some 6
 unfolding on_locales
