@@ -2,7 +2,7 @@
 // No clause speaks of it: whoever makes the turns, the loop is the same.
 
 use crate::gate::Gate;
-use crate::level::Site;
+use crate::level::{Makers, Site};
 use dpl_array::Row;
 use dpl_contents::ArrayWords;
 use dpl_frame::{Frame, Slots};
@@ -42,14 +42,18 @@ fn are_soon_dealt(slots: &[usize], turns: u64, frame: &Frame<Slots>) -> bool {
 }
 
 /// Whether the arrays in some slots are dealt by a loop's map, or may be dealt anew for its workers. That takes two copies of each, so with an
-/// open gate it has to be done soon; a gate that isn't open sees who makes a turn, so there it is always done.
+/// open gate it has to be done soon, and isn't done for the caller; a gate that isn't open sees who makes a turn, so there it is always done.
 pub(crate) fn may_deal<T, G: Gate>(
     slots: &[usize],
+    makers: Makers,
     site: &Site<'_, T, G>,
     frame: &Frame<Slots>,
 ) -> bool {
     if !site.gate.is_open() || are_dealt_by(slots, site.map, frame) {
         return true;
     }
-    are_soon_dealt(slots, site.whole.size(), frame)
+    match makers {
+        Makers::Workers => are_soon_dealt(slots, site.whole.size(), frame),
+        Makers::Caller => false,
+    }
 }

@@ -1,5 +1,6 @@
 // Reductions by workers: one for each locale whose part of the domain isn't empty. A level starts the worker of a locale, goes down for the
-// locales behind it, then joins the worker and puts the two ends together. Where no thread can be made, the caller folds the part.
+// locales behind it, then joins the worker and puts the two ends together. Where no thread can be made, the caller folds the part; and small
+// ones over elements that go round it folds part by part, without threads.
 
 ghost use Rattle.std.specs.Prelude.{◌≡◌, ◌-◌, ◌⊎◌, length, Result, IfOk, IfSome};
 ghost use Rattle.dpl_sets.specs.Indices.{indices};
@@ -14,9 +15,10 @@ ghost use Rattle.dpl_loop.specs.Folds.{in_turns, FoldEnds, PartsEnd, parts_ran, 
 use crate::ended::{Ended, both};
 use crate::fold_owned::fold_owned;
 use crate::gate::Gate;
+use crate::level::Makers;
 use crate::part::PartGate;
 use crate::parts::{Part, parts};
-use crate::plan::serve;
+use crate::plan::makers;
 use crate::reduction::Operator;
 use crate::strip::Strip;
 use crate::strips::fold_strips;
@@ -26,7 +28,7 @@ use dpl_contents::DomainWord;
 use dpl_domain::{Domain, Index};
 use dpl_frame::{Alarm, Turn};
 use dpl_map::Map;
-use std::alloc::{AllocError, Global};
+use std::alloc::Global;
 use std::thread::{self, Threads};
 
 /// A domain, the map by which it is dealt out, and the gate that is asked for its indices.
@@ -83,7 +85,28 @@ struct Shared<'a, W, P> {
     whole: &'a Domain,
     map: &'a Map,
     parts: &'a [Option<Part>],
+    makers: Makers,
     fold: &'a P,
+}
+
+// How two parts end: the first one's worker has a thread of its own, or the caller folds one after the other.
+fn pair<R: Threads, F: FnOnce() -> Ended + Send, B: FnOnce() -> Ended>(
+    rt: &R,
+    makers: Makers,
+    first: F,
+    behind: B,
+) -> (Ended, Ended)
+    requires { F.pre first × B.pre behind }
+    ensures first { F.post first result.0 }
+    ensures behind { B.post behind result.1 }
+{
+    match makers {
+        Makers::Workers => thread::join(rt, first, behind),
+        Makers::Caller => {
+            let ended = first();
+            (ended, behind())
+        }
+    }
 }
 
 // What the parts of the locales from one on come to together.
@@ -131,30 +154,13 @@ fn spread<R: Threads + Sync, W: OnWords + Sync, P: Fn(Part, usize) -> Ended + Sy
             (ArePartOperands (W.op shared.entry.now.operator.now) (in_turns meaning) shared.entry.now.whole.now shared.entry.now.map.now next
             (length shared.entry.now.parts.now - next)) result.turn result.item }
     { spread(rt, shared, next) };
-    let (first, behind) = thread::join(rt, own, others);
+    let (first, behind) = pair(rt, shared.makers, own, others);
     both(shared.operator, shared.whole, first, behind)
 }
 
-// The parts that workers fold, by locales; none where workers don't serve.
-fn parts_of<G: Gate>(
-    alloc: Global,
-    dealt: &Dealt<'_, G>,
-    whole: &Domain,
-) -> Result<Option<Vec<Option<Part>>>, AllocError>
-    ensures { IfOk result (λ parts. IfSome parts (λ parts. AreParts whole.now dealt.now.map.now parts.items)) }
-{
-    if !serve(whole, dealt.map, dealt.gate) {
-        return Ok(None);
-    }
-    match parts(alloc, dealt.map, whole) {
-        Ok(parts) => Ok(Some(parts)),
-        Err(error) => Err(error),
-    }
-}
-
 /// The ints of a domain's indices put together, as [`reduce_ints`](crate::reduce_ints) does it: by workers, one for each locale whose part
-/// of the domain isn't empty, where they serve, and else by the caller. All workers are joined before it answers. Where no thread can be
-/// made for a part, the caller folds it.
+/// of the domain isn't empty, where they serve, and else by the caller, in order or part by part. All workers are joined before it answers.
+/// Where no thread can be made for a part, the caller folds it.
 ///
 /// # Errors
 /// The first of these that came up in a part: out of memory; the gate refused the entry of an index's owner, which it may, or an item's own
@@ -181,13 +187,13 @@ pub fn reduce_by_workers<
         turn.new result (fold_over (O.op operator.now) meaning dealt.now.over) }
 {
     let whole = dealt.over.domain();
-    let Ok(parts) = parts_of(alloc, dealt, &whole) else {
-        return Err(Alarm::out_of_memory());
-    };
-    let Some(parts) = parts else {
+    let Some(makers) = makers(&whole, dealt.map, dealt.gate) else {
         return fold_strips(
             operator, &whole, dealt.map, &item_at, &strip_at, dealt.gate, turn,
         );
+    };
+    let Ok(parts) = parts(alloc, dealt.map, &whole) else {
+        return Err(Alarm::out_of_memory());
     };
     let fold = |part: Part, locale: usize| -> Ended
         requires items { F.IsAlwaysCallable item_at }
@@ -201,6 +207,7 @@ pub fn reduce_by_workers<
         whole: &whole,
         map: dealt.map,
         parts: &parts,
+        makers,
         fold: &fold,
     };
     let ended = spread(rt, &shared, 0);

@@ -1,4 +1,4 @@
-// The threads of a forall's workers.
+// The jobs of a forall's parts are done: by a worker each, on a thread of its own, or by the caller, one after another.
 // A level starts the worker of the last job, goes down for those before it, then joins the worker and takes what it has left.
 
 ghost use Rattle.std.specs.Prelude.{◌≡◌, [], IfOk, IfErr};
@@ -30,7 +30,16 @@ pub(crate) struct Site<'a, T, G> {
     pub(crate) gate: &'a G,
 }
 
-// What a worker does on its thread: the turns of its part, in order.
+/// Who does the jobs of a loop.
+#[derive(Clone, Copy)]
+pub(crate) enum Makers {
+    /// A worker for each, on a thread of its own.
+    Workers,
+    /// The caller, one after another.
+    Caller,
+}
+
+// What a job comes to: the turns of its part, in order.
 fn work<T: Turns, G: Gate>(
     site: &Site<'_, T, G>,
     locale: u32,
@@ -126,11 +135,8 @@ fn start_all<'s, E, T: Turns + Sync, G: Gate + Sync, R: Threads + Sync>(
     }
 }
 
-/// Does these jobs in a scope, each by a worker of its own. All that were started are joined.
-///
-/// # Errors
-/// Out of memory, for one of the workers or for what one has left; or else a worker was not started.
-pub(crate) fn work_all<'a, T: Turns + Sync, G: Gate + Sync, R: Threads + Wait + Sync>(
+// Does these jobs in a scope, each by a worker of its own. All that were started are joined.
+fn by_workers<'a, T: Turns + Sync, G: Gate + Sync, R: Threads + Wait + Sync>(
     rt: &R,
     site: &'a Site<'a, T, G>,
     jobs: Vec<Job<'a>>,
@@ -152,4 +158,50 @@ pub(crate) fn work_all<'a, T: Turns + Sync, G: Gate + Sync, R: Threads + Wait + 
             ensures refused { IfErr result IsUnmade }
         { start_all(rt, scope, site, jobs, done) },
     )
+}
+
+// Does these jobs one after another.
+fn by_caller<'a, T: Turns, G: Gate>(
+    site: &Site<'a, T, G>,
+    mut jobs: Vec<Job<'a>>,
+    done: Vec<Worked>,
+) -> Result<Vec<Worked>, RunStop>
+    requires { done.items ≡ [] }
+    ensures done { IfOk result (λ ws. HaveDone (MayRefuseAmong (G.may_refuse site.now.gate.now) site.now.map.now (indices site.now.whole.now))
+        (λ limits. named_turn (T.turn site.now.turns.now limits)) site.now.whole.now site.now.map.now jobs.entry.items ws.items) }
+    ensures refused { IfErr result IsUnmade }
+{
+    let Some(job) = jobs.pop() else {
+        return Ok(done);
+    };
+    let Job {
+        locale,
+        part,
+        frame,
+    } = job;
+    let mut done = by_caller(site, jobs, done)?;
+    done.push(work(site, locale, part, frame))?;
+    Ok(done)
+}
+
+/// Does these jobs. All workers that were started are joined.
+///
+/// # Errors
+/// Out of memory, for one of the workers or for what one has left; or else a worker was not started.
+pub(crate) fn work_all<'a, T: Turns + Sync, G: Gate + Sync, R: Threads + Wait + Sync>(
+    rt: &R,
+    makers: Makers,
+    site: &'a Site<'a, T, G>,
+    jobs: Vec<Job<'a>>,
+    done: Vec<Worked>,
+) -> Result<Vec<Worked>, RunStop>
+    requires { done.items ≡ [] }
+    ensures done { IfOk result (λ ws. HaveDone (MayRefuseAmong (G.may_refuse site.now.gate.now) site.now.map.now (indices site.now.whole.now))
+        (λ limits. named_turn (T.turn site.now.turns.now limits)) site.now.whole.now site.now.map.now jobs.entry.items ws.items) }
+    ensures refused { IfErr result IsUnmade }
+{
+    match makers {
+        Makers::Workers => by_workers(rt, site, jobs, done),
+        Makers::Caller => by_caller(site, jobs, done),
+    }
 }

@@ -3,7 +3,8 @@
 // `forall_here` is what a caller does alone, and `forall` has workers do it where that serves (plan.rt): the
 // memory is tested (formed.rt) and the domain cut into parts (parts.rt), the arrays that turns write are taken apart (taken.rt; one
 // that another map deals out is dealt anew, where that serves: dealt.rt), each locale
-// gets a job (jobs.rt, units.rt), which a thread of its own does (level.rt, part.rt; where its part is several domains, owned.rt, steady.rt);
+// gets a job (jobs.rt, units.rt), which a thread of its own does, or the caller (level.rt, part.rt; where its part is several domains,
+// owned.rt, steady.rt);
 // of their ends one is told (soonest.rt), and what they have left is put together (given.rt, joined.rt).
 // `reduce_ints` is a reduction that the caller makes alone, and `reduce_by_workers` has workers fold the parts of its domain where that serves
 // (fold_parts.rt, fold_owned.rt, ended.rt).

@@ -1,7 +1,8 @@
 // Foralls by workers: one for each locale whose part of the loop's domain isn't empty. Each owns its pieces of the arrays that the turns
 // write, is lent the others, and adds to reduce variables from nothing; then all is put together.
 // Turns that don't tell how they may be made apart are made in order, and so are those for which workers don't serve: where the gate is open
-// and the loop is small or cut into small blocks, or writes an array of another map that isn't soon dealt anew (dealt.rt).
+// and the loop is small or cut into small blocks, or writes an array of another map that isn't soon dealt anew (dealt.rt). Of small loops the
+// caller makes those part by part, without threads, whose next index lies with another locale each time.
 
 ghost use Rattle.std.specs.Prelude.{◌≡◌, [], ◌∷◌, ℕ, None, Ok, Err, map, length, IfOk, IfErr, IfSome, OnOk};
 ghost use Rattle.std.specs.List.{AllByRecursion};
@@ -28,7 +29,7 @@ use crate::given::give_back;
 use crate::job::Worked;
 use crate::jobs::jobs;
 use crate::joined::{set_words, take_left, words_left};
-use crate::level::{Site, work_all};
+use crate::level::{Makers, Site, work_all};
 use crate::loops::turns_of;
 use crate::parts::{Part, parts};
 use crate::soonest::ended;
@@ -61,31 +62,59 @@ fn has_long_blocks(domain: &Domain, map: &Map) -> bool {
     LONG < behind.saturating_add(before)
 }
 
-/// Whether workers serve a loop. A gate that isn't open sees who makes a turn, so there they are always started.
-pub(crate) fn serve<G: Gate>(domain: &Domain, map: &Map, gate: &G) -> bool {
+// Whether workers serve a loop. A gate that isn't open sees who makes a turn, so there they are always started.
+fn serve<G: Gate>(domain: &Domain, map: &Map, gate: &G) -> bool {
     if !gate.is_open() {
         return true;
     }
     1 < map.locales() && WORTH <= domain.size() && has_long_blocks(domain, map)
 }
 
-// How the turns of a loop are made apart, and for each locale its part of the domain.
+// Of so many indices of a row that a locale owns the turns are made at once.
+const FEW: u64 = 16;
+
+// Whether the next index of a row lies with another locale each time, and each locale has many of them: in order no two turns are made at
+// once, but part by part they are.
+fn goes_round(domain: &Domain, map: &Map) -> bool {
+    let Some((_, locales)) = map.round(domain.rank().saturating_sub(1)) else {
+        return false;
+    };
+    let (_, _, inner) = domain.ranges();
+    if inner.stride().checked_rem(i64::from(locales)) == Some(0) {
+        return false;
+    }
+    FEW <= inner.size() / u64::from(locales).max(1)
+}
+
+/// Who makes the parts of a loop; none where it is made in order.
+pub(crate) fn makers<G: Gate>(domain: &Domain, map: &Map, gate: &G) -> Option<Makers> {
+    if serve(domain, map, gate) {
+        return Some(Makers::Workers);
+    }
+    if goes_round(domain, map) {
+        return Some(Makers::Caller);
+    }
+    None
+}
+
+// How the turns of a loop are made apart, for each locale its part of the domain, and who makes these.
 #[derive(Drop)]
 struct Plan<'b> {
     apart: Apart<'b>,
     parts: Vec<Option<Part>>,
+    makers: Makers,
 }
 
-// How workers make a loop; none where they don't serve, or where what the law of turns that are made apart asks doesn't hold.
+// How a loop is made apart; none where that doesn't serve, or where what the law of turns that are made apart asks doesn't hold.
 fn planned<'b, T: Turns, G: Gate>(
     site: &Site<'b, T, G>,
     frame: &Frame<Slots>,
 ) -> Result<Option<Plan<'b>>, AllocError>
     ensures { IfOk result (λ plan. IfSome plan (IsPlan (T.turn site.now.turns.now) site.now.whole.now site.now.map.now frame.now.memory)) }
 {
-    if !serve(site.whole, site.map, site.gate) {
+    let Some(makers) = makers(site.whole, site.map, site.gate) else {
         return Ok(None);
-    }
+    };
     let Some(apart) = site.turns.apart() else {
         return Ok(None);
     };
@@ -95,16 +124,20 @@ fn planned<'b, T: Turns, G: Gate>(
     if !may_start(&apart, frame) {
         return Ok(None);
     }
-    if !may_deal(apart.written, site, frame) {
+    if !may_deal(apart.written, makers, site, frame) {
         return Ok(None);
     }
     match parts(frame.alloc(), site.map, site.whole) {
-        Ok(parts) => Ok(Some(Plan { apart, parts })),
+        Ok(parts) => Ok(Some(Plan {
+            apart,
+            parts,
+            makers,
+        })),
         Err(error) => Err(error),
     }
 }
 
-// The workers of a loop make its turns; what they have left, where all of them ended well.
+// The turns of a loop are made part by part; what is left of each, where all of them ended well.
 fn made<T: Turns + Sync, G: Gate + Sync, R: Threads + Wait + Sync>(
     rt: &R,
     site: &Site<'_, T, G>,
@@ -126,7 +159,7 @@ fn made<T: Turns + Sync, G: Gate + Sync, R: Threads + Wait + Sync>(
         (in_order (named_turn (T.turn site.now.turns.now frame.now.limits)) (indices site.now.whole.now) m done)) }
 {
     let jobs = jobs(&plan.apart, &plan.parts, taken, frame)?;
-    let worked = work_all(rt, site, jobs, Vec::new(frame.alloc()))?;
+    let worked = work_all(rt, plan.makers, site, jobs, Vec::new(frame.alloc()))?;
     ended(site.whole, &worked)?;
     Ok(worked)
 }
@@ -165,8 +198,8 @@ fn put_together<T, G>(
     Ok(())
 }
 
-// A loop by workers.
-fn by_workers<T: Turns + Sync, G: Gate + Sync, R: Threads + Wait + Sync>(
+// A loop that is made apart.
+fn by_parts<T: Turns + Sync, G: Gate + Sync, R: Threads + Wait + Sync>(
     rt: &R,
     site: &Site<'_, T, G>,
     plan: &Plan<'_>,
@@ -186,7 +219,7 @@ fn by_workers<T: Turns + Sync, G: Gate + Sync, R: Threads + Wait + Sync>(
 }
 
 /// A forall over a domain, dealt out by a map: by workers, one for each locale whose part isn't empty, where its turns may be made apart and
-/// workers serve, and else by the caller. For each turn the owner of its index enters the gate, unless the gate is open. All workers that
+/// workers serve, and else by the caller, in order or part by part. For each turn the owner of its index enters the gate, unless the gate is open. All workers that
 /// were started are joined before it answers.
 ///
 /// # Errors
@@ -214,5 +247,5 @@ pub fn forall<T: Turns + Sync, G: Gate + Sync, R: Threads + Wait + Sync>(
     let Some(plan) = planned(&site, frame)? else {
         return turns_of(turns, &domain, map, frame, gate);
     };
-    by_workers(rt, &site, &plan, frame)
+    by_parts(rt, &site, &plan, frame)
 }

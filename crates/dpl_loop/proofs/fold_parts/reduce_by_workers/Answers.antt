@@ -1,6 +1,5 @@
 -- What all parts come to is the fold over the whole domain.
 use Rattle.std.proofs.Common.{◌≡◌, ◌-◌, ◌<◌, length, sym, subst, ap, arith}
-use Rattle.std.specs.Option.{IfSome}
 use Rattle.dpl_sets.specs.Indices.{indices}
 use Rattle.dpl_map.specs.Maps.{owner}
 use Rattle.dpl_language.specs.Values.{Index}
@@ -13,8 +12,8 @@ use Rattle.dpl_loop.proofs.Folds.{all-end}
 use Rattle.dpl_loop.proofs.Places.{among}
 use Rattle.dpl_loop.proofs.fold_parts.reduce_by_workers.Goals as goal
 
-pub returns-in_default-parts : goal.returns-in_default-parts
-returns-in_default-parts g c meaning answers strips =
+pub returns-in_default : goal.returns-in_default
+returns-in_default g c meaning answers strips =
     let whole = c.domain-whole.result in
     let over = c.args.dealt.now.over in
     let same = ap indices c.domain-whole.ensures.domain in
@@ -31,8 +30,7 @@ returns g c meaning answers strips =
     let over = c.args.dealt.now.over in
     let n = length c.deref.result.now in
     let same = ap indices c.domain-whole.ensures.domain in
-    let sole = subst (λ o. IfSome o (λ (ps : _). AreParts whole axes ps.items)) c.in-Some.is c.in-Ok.ensures in
-    let parts = subst (λ (ps : _). AreParts whole axes ps) (sym c.deref.ensures.value) sole in
+    let parts = subst (λ (ps : _). AreParts whole axes ps) (sym c.deref.ensures.value) c.in-Ok.ensures in
     let ranges = written-ranges whole (subst AreWritten (sym c.domain-whole.ensures.domain) c.domain-whole.ensures.limits) in
     let all : n - 0 ≡ n = omega arith in
     let below : (t : Index) → owner axes t < n - 0 = λ t. subst (λ k. owner axes t < k) (sym all) (parts.owners t) in

@@ -9,7 +9,7 @@ use Rattle.dpl_loop.specs.Values.{MayRefuseAmong}
 use Rattle.dpl_loop.specs.Taken.{AreTaken, all_taken}
 use Rattle.dpl_loop.specs.Foralls.{HaveMade}
 use Rattle.dpl_loop.proofs.Foralls.{forall-made}
-use Rattle.dpl_loop.proofs.plan.by_workers.Goals as goal
+use Rattle.dpl_loop.proofs.plan.by_parts.Goals as goal
 
 pub returns-clause-ends : goal.returns-clause-ends
 returns-clause-ends g c =
