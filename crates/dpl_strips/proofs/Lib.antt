@@ -1,3 +1,4 @@
 pub mod Wrapped
 pub mod Strips
 pub mod Paces
+pub mod Truths

@@ -6,7 +6,7 @@ use Rattle.std.proofs.lemmas.Bool.Decides.{Decides-int_eq}
 use Rattle.dpl_syntax.specs.declared.place.Place.{Place}
 use Rattle.dpl_language.specs.Arithmetic.{wrap}
 use Rattle.dpl_array.specs.Elements.{Row, behind}
-use Rattle.dpl_language.specs.Tree.{IntKind, ExprTree, Divide, Remainder}
+use Rattle.dpl_language.specs.Tree.{Kind, ExprTree, Divide, Remainder}
 use Rattle.dpl_language.specs.Values.{Value, Fault, Index, Int, index_of}
 use Rattle.dpl_language.specs.Outcome.{with_ok}
 use Rattle.dpl_language.specs.Expressions.{value_of, items_of, values_of, found}
@@ -98,16 +98,16 @@ items-values limits (Space' p a q b r c) u = refl
 items-values limits (Tuple slot) u = refl
 
 -- the word at an index that is found is the element's value
-found-word : (at : Place) (held : Held) (t : Index) (word : ℤ) (found_at : Result (List Value) Fault) → with_ok found_at (λ vs. Ok (index_of vs)) ≡ Ok t → held_at t held ≡ Some word
-    → with_ok (with_ok found_at (λ vs. found at (option_map (element_as IntKind) (held_at (index_of vs) held)))) (λ w. Ok w) ≡ Ok (Int word)
-found-word at held t word (Ok vs) index there =
+found-word : (kind : Kind) (at : Place) (held : Held) (t : Index) (word : ℤ) (found_at : Result (List Value) Fault) → with_ok found_at (λ vs. Ok (index_of vs)) ≡ Ok t → held_at t held ≡ Some word
+    → with_ok (with_ok found_at (λ vs. found at (option_map (element_as kind) (held_at (index_of vs) held)))) (λ w. Ok w) ≡ Ok (element_as kind word)
+found-word kind at held t word (Ok vs) index there =
     let same : index_of vs ≡ t = cc in
-    ap (λ i. with_ok (found at (option_map (element_as IntKind) (held_at i held))) (λ w. Ok w)) same
-    ∙ ap (λ o. with_ok (found at (option_map (element_as IntKind) o)) (λ w. Ok w)) there
-found-word at held t word (Err f) index there = absurd cc
+    ap (λ i. with_ok (found at (option_map (element_as kind) (held_at i held))) (λ w. Ok w)) same
+    ∙ ap (λ o. with_ok (found at (option_map (element_as kind) o)) (λ w. Ok w)) there
+found-word kind at held t word (Err f) index there = absurd cc
 
-pub element-value : (limits : Limits) (slot : ℕ) (x : IndexExpr) (at : Place) (u : Memory) (t : Index) (word : ℤ)
+pub element-value : (limits : Limits) (kind : Kind) (slot : ℕ) (x : IndexExpr) (at : Place) (u : Memory) (t : Index) (word : ℤ)
     → with_ok (values_of limits in_memory (index_exprs x) u) (λ vs. Ok (index_of vs)) ≡ Ok t → held_at t (array_at slot u) ≡ Some word
-    → value_of limits in_memory (in_square (array_named IntKind slot at) (index_items x)) None u ≡ Ok (Int word)
-element-value limits slot x at u t word index there =
-    found-word at (array_at slot u) t word (items_of limits in_memory (index_items x) u) (ap (λ r. with_ok r (λ vs. Ok (index_of vs))) (items-values limits x u) ∙ index) there
+    → value_of limits in_memory (in_square (array_named kind slot at) (index_items x)) None u ≡ Ok (element_as kind word)
+element-value limits kind slot x at u t word index there =
+    found-word kind at (array_at slot u) t word (items_of limits in_memory (index_items x) u) (ap (λ r. with_ok r (λ vs. Ok (index_of vs))) (items-values limits x u) ∙ index) there

@@ -1,2 +1,3 @@
--- Ints of several indices at once.
+-- Ints of several indices at once, and truth values.
 pub mod Strips
+pub mod Truths

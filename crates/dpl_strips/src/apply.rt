@@ -44,9 +44,9 @@ pub(crate) fn copy(strip: &mut Strip, words: &[i64])
     strip.size = size;
 }
 
-// What a function makes of each int of a strip. It is inlined with that function, so the loop calls nothing.
+/// What a function makes of each int of a strip. It is inlined with that function, so the loop calls nothing.
 #[inline(always)]
-fn each<F: Fn(i64) -> i64>(strip: &mut Strip, apply: F)
+pub(crate) fn each<F: Fn(i64) -> i64>(strip: &mut Strip, apply: F)
     requires { F.IsAlwaysCallable apply }
     ensures row { strip.new.row ≡ strip.old.row }
     ensures size { strip.new.size ≡ strip.old.size }
@@ -109,9 +109,9 @@ fn with_int<F: Fn(i64, i64) -> i64>(strip: &mut Strip, right: i64, apply: F)
     each(strip, made);
 }
 
-// What an operator makes of the ints of a strip, each with the word at the same place on its right.
+/// What an operator makes of the ints of a strip, each with the word at the same place on its right.
 #[inline(always)]
-fn with_words<F: Fn(i64, i64) -> i64>(strip: &mut Strip, right: &[i64], apply: F)
+pub(crate) fn with_words<F: Fn(i64, i64) -> i64>(strip: &mut Strip, right: &[i64], apply: F)
     requires { F.IsAlwaysCallable apply }
     ensures row { strip.new.row ≡ strip.old.row }
     ensures left { strip.new.size ≤ strip.old.size }

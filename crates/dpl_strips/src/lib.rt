@@ -1,4 +1,4 @@
-// Strips: the ints of several indices at once, of an expression over whole arrays and of one in the turns of a forall.
+// Strips: the ints, or the truth values, of several indices at once, of an expression over whole arrays and of one in the turns of a forall.
 // A strip says of each int that it has that it is the value at its index, and never how many it has: whoever asks for one goes on index by
 // index where it has none, so that a fault and its turn are the walk's alone. It is read before the turns that write, so it must not see what
 // they write. A promoted expression reads at the index that is written alone; an expression in a turn may read elsewhere, so it has no strip
@@ -11,9 +11,12 @@ pub mod number;
 mod pace;
 mod strip;
 mod target;
+mod truth;
+mod truth_strips;
 mod turn_strips;
 
 pub use apply::repeat;
 pub use strip::{promoted_ints, promoted_strip};
 pub use target::Target;
+pub use truth_strips::turn_truths;
 pub use turn_strips::{turn_ints, turn_row};

@@ -4,13 +4,14 @@
 ghost use Rattle.std.specs.Prelude.{◌≡◌, ◌<◌, ℕ, pos, ◌+ℤ◌, ◌*ℤ◌, IsTrue, None, get_or, length, IfSome};
 ghost use Rattle.dpl_syntax.specs.declared.place.Place.{Place};
 ghost use Rattle.dpl_language.specs.Arithmetic.{wrap};
-ghost use Rattle.dpl_language.specs.Tree.{IntKind, Minus, Divide, Remainder, Prefixed};
+ghost use Rattle.dpl_language.specs.Tree.{Kind, IntKind, Minus, Divide, Remainder, Prefixed};
 ghost use Rattle.dpl_language.specs.Expressions.{value_of};
 ghost use Rattle.dpl_lowered.specs.Shapes.{nowhere, two};
 ghost use Rattle.dpl_memory.specs.Memory.{in_memory};
 ghost use Rattle.dpl_nodes.specs.declared.tree.IndexExpr.{Tuple as TupleIndex};
 ghost use Rattle.dpl_nodes.specs.Typed.{array_named, in_square, index_items, int_view};
-ghost use Rattle.dpl_strips.specs.Strips.{paced, FitsTurns, IsInOwnTurn, HoldWhere, HoldsInTurns, RightHolds, GoesFrom, infix_of};
+ghost use Rattle.dpl_strips.specs.Strips.{paced, FitsTurns, IsInOwnTurn, HoldsInTurns, RightHolds, GoesFrom, infix_of};
+ghost use Rattle.dpl_strips.specs.Truths.{ElementsInTurns};
 
 use crate::apply::{Right, Wrapping, apply, copy, divide, leave, negate, repeat};
 use crate::index::{coordinate, plane, space};
@@ -130,8 +131,9 @@ fn is_same(a: Row, b: Row) -> bool
     true
 }
 
-// The elements of an array that the turns find, where they lie side by side and no other turn writes them.
-fn elements<'f, A: Arrays>(
+/// The elements of an array that the turns find, where they lie side by side and no other turn writes them. They are told as words, whatever
+/// the array's kind.
+pub(crate) fn elements<'f, A: Arrays>(
     slot: usize,
     index: &IndexExpr<'_>,
     names: &Names<'_>,
@@ -139,9 +141,8 @@ fn elements<'f, A: Arrays>(
     row: Row,
     frame: &'f Frame<A>,
 ) -> Option<&'f [i64]>
-    ensures { (at : Place) → IfSome result (λ words. HoldWhere (λ row k u. IsInOwnTurn names.now target.now row k frame.now.memory u)
-        (λ t u. value_of frame.now.limits in_memory (in_square (array_named IntKind slot at) (index_items index.now)) None u)
-        row (length words.now) (λ k. get_or words.now k (pos 0))) }
+    ensures { (kind : Kind) (at : Place) → IfSome result (λ words. ElementsInTurns names.now target.now
+        (value_of frame.now.limits in_memory (in_square (array_named kind slot at) (index_items index.now)) None) kind row frame.now.memory words.now) }
 {
     let at = turn_row(index, names, target.slot, row, frame)?;
     if slot == target.slot && !is_same(at, target.at) {

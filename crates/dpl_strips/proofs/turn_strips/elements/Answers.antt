@@ -16,7 +16,7 @@ own_word at own slot target k s u row same kept =
     (subst (λ slot. held_at (behind k own) (array_at slot u) ≡ held_at (behind k own) (array_at slot s)) (sym same) kept)
 
 pub returns : goal.returns
-returns g c name k below within u turn =
+returns g c kind name k below within u turn =
     let f = c.args.frame.now in
     let slot = c.args.slot in
     let target = c.args.target.now in
@@ -27,5 +27,5 @@ returns g c name k below within u turn =
       | else-slot-target-via-then-slot-target+else-not-is_same w ↦ own_word row target.at slot target.slot k f.memory u (w.is_same.ensures (search rules)) (omega (arith, w.if-slot-target.true)) turn.own
       | else-slot-target-via-else-slot-target w ↦ ap (held_at (behind k row)) (turn.turn.arrays slot (λ is. omega (arith, w.if-slot-target.false, is)))
     ] in
-    element-value f.limits slot c.args.index.now name u (behind k row) word (c.in_ok-at.ensures k within u turn.turn)
+    element-value f.limits kind slot c.args.index.now name u (behind k row) word (c.in_ok-at.ensures k within u turn.turn)
     (same ∙ c.run.ensures k word (slice_get-get_or c.run.result.now k (pos 0) below))

@@ -1,0 +1,86 @@
+-- What is made of the words of truth values, or of ints, is the word of the whole's truth value.
+-- Each lemma has the word that is made on its right side.
+use Rattle.std.proofs.Common.{◌≡◌, ◌<◌, ◌≤◌, ℕ, ℤ, pos, Bool, true, false, length, get_or, take, Option, Result, Ok, refl, sym, subst, ap, ◌∙◌, arith}
+use Rattle.std.proofs.lemmas.List.{get_or-take}
+use Rattle.dpl_language.specs.Tree.{ExprTree}
+use Rattle.dpl_language.specs.Values.{Value, Fault, Index, Int, Truth, kept_number}
+use Rattle.dpl_language.specs.Expressions.{value_of}
+use Rattle.dpl_language.specs.Environment.{Limits}
+use Rattle.dpl_lowered.specs.Shapes.{nowhere, two}
+use Rattle.dpl_memory.specs.Memory.{Variable, Memory, in_memory}
+use Rattle.dpl_nodes.specs.declared.tree.Comparison.{Comparison}
+use Rattle.dpl_nodes.specs.declared.tree.Comparison.TheVariants as comparison
+use Rattle.dpl_nodes.specs.declared.step.Names.{Names}
+use Rattle.dpl_nodes.specs.Typed.{comparison_view}
+use Rattle.dpl_loop.specs.declared.strip.Strip.{Strip}
+use Rattle.dpl_strips.specs.declared.target.Target.{Target}
+use Rattle.dpl_strips.specs.declared.truth_strips.Junction.{Junction}
+use Rattle.dpl_strips.specs.declared.truth_strips.Junction.TheVariants as junction
+use Rattle.dpl_strips.specs.Strips.{IsInOwnTurn, HoldsInTurns}
+use Rattle.dpl_strips.specs.Truths.{TruthsHoldInTurns, junction_view, joins, compares}
+use Rattle.dpl_strips.proofs.Strips.{take-few}
+
+module _ (limits : Limits) (t : Option Index) (u : Memory) where
+  -- an operator on two truth values: where the left one decides, the right one makes no difference
+  pub joined-at : (op : Junction) (a b : ExprTree Variable) (x y : Bool) → value_of limits in_memory a t u ≡ Ok (Truth x) → value_of limits in_memory b t u ≡ Ok (Truth y)
+      → value_of limits in_memory (two a nowhere (junction_view op) b) t u ≡ Ok (Truth (joins op x y))
+  joined-at junction.And a b true y left right = rw left (rw right refl)
+  joined-at junction.And a b false y left right = rw left refl
+  joined-at junction.Or a b true y left right = rw left refl
+  joined-at junction.Or a b false y left right = rw left (rw right refl)
+  joined-at junction.Same a b x y left right = rw left (rw right refl)
+  joined-at junction.Differ a b x y left right = rw left (rw right refl)
+
+  -- how two ints compare
+  pub compared-at : (c : Comparison) (a b : ExprTree Variable) (x y : ℤ) → value_of limits in_memory a t u ≡ Ok (Int x) → value_of limits in_memory b t u ≡ Ok (Int y)
+      → value_of limits in_memory (two a nowhere (comparison_view c) b) t u ≡ Ok (Truth (compares c x y))
+  compared-at comparison.Equal a b x y left right = rw left (rw right refl)
+  compared-at comparison.Unequal a b x y left right = rw left (rw right refl)
+  compared-at comparison.Less a b x y left right = rw left (rw right refl)
+  compared-at comparison.AtMost a b x y left right = rw left (rw right refl)
+  compared-at comparison.Greater a b x y left right = rw left (rw right refl)
+  compared-at comparison.AtLeast a b x y left right = rw left (rw right refl)
+
+-- the words of a strip that are made of those of two, of which the right one's first so many are taken
+module _
+    (names : Names) (target : Target) (s : Memory) (left right made : Strip) (size : ℕ) (row : made.row ≡ left.row) (beside : right.row ≡ left.row)
+    (fewer : made.size ≤ left.size) (in_right : made.size ≤ length (take size right.words)) (small : size ≤ right.size) where
+  inside : (k : ℕ) → k < made.size → k < size
+  inside k below = omega (arith, below, in_right, take-few size right.words)
+
+  taken : (k : ℕ) → k < made.size → get_or (take size right.words) k (pos 0) ≡ get_or right.words k (pos 0)
+  taken k below = get_or-take size right.words k (pos 0) (inside k below)
+
+  -- the turn of a strip's index is that of another's over the same row
+  turn-left : (k : ℕ) (u : Memory) → IsInOwnTurn names target made.row k s u → IsInOwnTurn names target left.row k s u
+  turn-left k u turn = subst (λ row. IsInOwnTurn names target row k s u) row turn
+
+  turn-right : (k : ℕ) (u : Memory) → IsInOwnTurn names target made.row k s u → IsInOwnTurn names target right.row k s u
+  turn-right k u turn = subst (λ row. IsInOwnTurn names target row k s u) (sym beside) (turn-left k u turn)
+
+  pub joined-hold : (at_left at_right at_whole : Memory → Result Value Fault) (op : Junction)
+      → ((u : Memory) (x y : Bool) → at_left u ≡ Ok (Truth x) → at_right u ≡ Ok (Truth y) → at_whole u ≡ Ok (Truth (joins op x y)))
+      → TruthsHoldInTurns names target at_left s left → TruthsHoldInTurns names target at_right s right
+      → ((k : ℕ) → k < made.size → k < 64 → (x y : Bool) → get_or left.words k (pos 0) ≡ kept_number (Truth x) → get_or (take size right.words) k (pos 0) ≡ kept_number (Truth y)
+      → get_or made.words k (pos 0) ≡ kept_number (Truth (joins op x y)))
+      → TruthsHoldInTurns names target at_whole s made
+  joined-hold at_left at_right at_whole op whole left_holds right_holds words k below cap =
+      let l = left_holds k (omega (arith, below, fewer)) cap in
+      let r = right_holds k (omega (arith, inside k below, small)) cap in (
+        joins op l.0 r.0,
+        words k below cap l.0 r.0 l.1 (taken k below ∙ r.1),
+        λ u turn. whole u l.0 r.0 (l.2 u (turn-left k u turn)) (r.2 u (turn-right k u turn)),
+      )
+
+  pub compared-hold : (at_left at_right at_whole : Memory → Result Value Fault) (c : Comparison)
+      → ((u : Memory) (x y : ℤ) → at_left u ≡ Ok (Int x) → at_right u ≡ Ok (Int y) → at_whole u ≡ Ok (Truth (compares c x y)))
+      → HoldsInTurns names target at_left s left → HoldsInTurns names target at_right s right
+      → ((k : ℕ) → k < made.size → k < 64 → get_or made.words k (pos 0) ≡ kept_number (Truth (compares c (get_or left.words k (pos 0)) (get_or (take size right.words) k (pos 0)))))
+      → TruthsHoldInTurns names target at_whole s made
+  compared-hold at_left at_right at_whole c whole left_holds right_holds words k below cap =
+      let x = get_or left.words k (pos 0) in
+      let y = get_or right.words k (pos 0) in (
+        compares c x y,
+        words k below cap ∙ ap (λ y. kept_number (Truth (compares c x y))) (taken k below),
+        λ u turn. whole u x y (left_holds k (omega (arith, below, fewer)) cap u (turn-left k u turn)) (right_holds k (omega (arith, inside k below, small)) cap u (turn-right k u turn)),
+      )

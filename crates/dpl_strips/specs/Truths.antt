@@ -1,0 +1,51 @@
+-- Truth values of several turns at once, in the words of a strip: 1 is true and 0 is false.
+-- What is meant is the same truth value in each memory that may be the one of the turn.
+use Rattle.std.specs.Prelude.{◌≡◌, ◌<◌, ℕ, ℤ, pos, Bool, not, ◌&&◌, ◌||◌, int_lt, int_le, List, length, get_or, Result, Ok}
+use Rattle.std.specs.Ordering.{int_eq}
+use Rattle.dpl_array.specs.Elements.{Row}
+use Rattle.dpl_language.specs.Tree.{Kind, Infix, And, Or, Equal, NotEqual}
+use Rattle.dpl_language.specs.Values.{Value, Truth, kept_number, Fault}
+use Rattle.dpl_memory.specs.Memory.{Memory, element_as}
+use Rattle.dpl_nodes.specs.declared.step.Names.{Names}
+use Rattle.dpl_nodes.specs.declared.tree.Comparison.{Comparison}
+use Rattle.dpl_nodes.specs.declared.tree.Comparison.TheVariants as comparison
+use Rattle.dpl_loop.specs.declared.strip.Strip.{Strip}
+use Rattle.dpl_strips.specs.declared.target.Target.{Target}
+use Rattle.dpl_strips.specs.declared.truth_strips.Junction.{Junction}
+use Rattle.dpl_strips.specs.declared.truth_strips.Junction.TheVariants as junction
+use Rattle.dpl_strips.specs.Strips.{IsInOwnTurn}
+
+-- a word is that of a truth value, which is what is meant in each memory that suits
+abbrev pub IsTruthWord : (Memory → Type 0) → (Memory → Result Value Fault) → ℤ → Type 0
+IsTruthWord suits meaning word = (b : Bool) × (word ≡ kept_number (Truth b)) × ((u : Memory) → suits u → meaning u ≡ Ok (Truth b))
+
+-- each word of a strip is the truth value in the turn of its index
+abbrev pub TruthsHoldInTurns : Names → Target → (Memory → Result Value Fault) → Memory → Strip → Type 0
+TruthsHoldInTurns names target meaning s strip =
+    (k : ℕ) → k < strip.size → k < 64 → IsTruthWord (IsInOwnTurn names target strip.row k s) meaning (get_or strip.words k (pos 0))
+
+-- each of some words is the element that is meant in the turn of its index, by the kind of its array
+abbrev pub ElementsInTurns : Names → Target → (Memory → Result Value Fault) → Kind → Row → Memory → List ℤ → Type 0
+ElementsInTurns names target meaning kind row s words =
+    (k : ℕ) → k < length words → k < 64 → (u : Memory) → IsInOwnTurn names target row k s u → meaning u ≡ Ok (element_as kind (get_or words k (pos 0)))
+
+-- OPERATORS: how they stand in a tree, and what they make of two truth values, or of two ints
+abbrev pub junction_view : Junction → Infix
+junction_view junction.And = And
+junction_view junction.Or = Or
+junction_view junction.Same = Equal
+junction_view junction.Differ = NotEqual
+
+abbrev pub joins : Junction → Bool → Bool → Bool
+joins junction.And x y = x && y
+joins junction.Or x y = x || y
+joins junction.Same x y = int_eq (kept_number (Truth x)) (kept_number (Truth y))
+joins junction.Differ x y = not (int_eq (kept_number (Truth x)) (kept_number (Truth y)))
+
+abbrev pub compares : Comparison → ℤ → ℤ → Bool
+compares comparison.Equal x y = int_eq x y
+compares comparison.Unequal x y = not (int_eq x y)
+compares comparison.Less x y = int_lt x y
+compares comparison.AtMost x y = int_le x y
+compares comparison.Greater x y = int_lt y x
+compares comparison.AtLeast x y = int_le y x
