@@ -248,6 +248,11 @@ module _ (limits : Limits) where
       ap (λ r. with_value r (λ b. choose b (scoped in_memory (exec_all limits in_memory body)) (exec_else limits in_memory other)) s done) (holds-value e s true value)
       ∙ scoped-same (exec_all limits in_memory body) s done
 
+  pub if-else : (e : ExprTree Variable) (body : Stmts Variable) (other : Else Variable) (s : Memory) (done : Deeds) → value_of limits in_memory e None s ≡ Ok (Truth false)
+      → exec limits in_memory (If nowhere e (listed body) other) s done ≡ exec_else limits in_memory other s done
+  if-else e body other s done value =
+      ap (λ r. with_value r (λ b. choose b (scoped in_memory (exec_all limits in_memory body)) (exec_else limits in_memory other)) s done) (holds-value e s false value)
+
   pub exec-while : (at : Place) (e : ExprTree Variable) (body : Stmts Variable) (s : Memory) (done : Deeds)
       → exec limits in_memory (While at e (listed body)) s done ≡ repeated limits.budget at (holds limits in_memory e) (exec_all limits in_memory body) s done
   exec-while at e body s done =

@@ -1,11 +1,12 @@
 // Declarations and assignments: a right side is evaluated, and its value goes into a slot.
 // They print nothing and take no memory.
 
-ghost use Rattle.std.specs.Prelude.{◌≡◌, Ok, option_map};
+ghost use Rattle.std.specs.Prelude.{◌≡◌, Ok, IfSome, option_map};
 ghost use Rattle.dpl_language.specs.Values.{Int};
 ghost use Rattle.dpl_lowered.specs.Shapes.{nowhere};
 ghost use Rattle.dpl_language.specs.Tree.{One, SetDivide, SetRemainder, SetReduce};
-ghost use Rattle.dpl_memory.specs.Memory.{int_leaf, truth_leaf, range_leaf, in_memory};
+ghost use Rattle.dpl_words.specs.Words.{IntLeaf};
+ghost use Rattle.dpl_memory.specs.Memory.{PlainKind, int_leaf, truth_leaf, range_leaf, with_value_in, in_memory};
 ghost use Rattle.dpl_nodes.specs.Typed.{int_view, truth_view, range_item};
 ghost use Rattle.dpl_loop.specs.Entries.{MayRefuseSome};
 ghost use Rattle.dpl_loop.specs.Values.{Gives};
@@ -17,7 +18,7 @@ use dpl_loop::RunStop;
 use dpl_loop::stop::told;
 use dpl_nodes::{BoolExpr, IntDeed, IntExpr, RangeExpr, Spot, TruthDeed};
 use dpl_strips::number::{difference, product, quotient, remainder, sum};
-use dpl_values::{Team, int_value, range_value, truth_value};
+use dpl_values::{Team, direct_int, int_value, range_value, truth_value};
 
 // A truth value's.
 fn declare_truth<G: Team>(
@@ -150,6 +151,32 @@ fn put<A: Arrays>(
         IntDeed::Reduce => reduce_int(slot, value, frame),
     }
     Ok(())
+}
+
+/// The number that an int has after what is done to it, where that is found directly: its right side is, and nothing has a fault. What the
+/// command line may give, and a reduce variable, are not looked at here.
+#[inline(always)]
+pub(crate) fn direct_number<A: Arrays>(
+    deed: &IntDeed<'_>,
+    slot: usize,
+    e: &IntExpr<'_>,
+    frame: &Frame<A>,
+) -> Option<i64>
+    ensures { IfSome result (λ n. int_memory frame.now.limits deed.now slot (One (int_view e.now)) frame.now.memory
+        ≡ Ok (with_value_in (PlainKind IntLeaf) slot (Int n) frame.now.memory)) }
+{
+    let value = direct_int(e, frame)?;
+    let number = frame.number(slot);
+    match deed {
+        IntDeed::Declare => Some(value),
+        IntDeed::Set => Some(value),
+        IntDeed::Add => Some(sum(number, value)),
+        IntDeed::Subtract => Some(difference(number, value)),
+        IntDeed::Multiply => Some(product(number, value)),
+        IntDeed::Divide(_) if value != 0 => Some(quotient(number, value)),
+        IntDeed::Remainder(_) if value != 0 => Some(remainder(number, value)),
+        _ => None,
+    }
 }
 
 // `reduce=` to a truth value

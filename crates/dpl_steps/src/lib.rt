@@ -2,13 +2,15 @@
 // A print and a forall are left to the context in which they stand.
 // The compiler clears every local that lives in memory at the entry of its function, so a function that is called at each statement must
 // have few. Hence walks hand back one word (`Alarm` of dpl_frame), change.rt evaluates an int's right side in one place whatever is done
-// with it, and statements that make no turns are functions of their own (simple.rt). turn.rt shows that turns made at once are the turns one after
+// with it, and statements that make no turns are functions of their own (simple.rt). What can't go wrong is done before any of that, by
+// functions whose answer is a truth value (direct.rt). turn.rt shows that turns made at once are the turns one after
 // another (`AreDone`).
 #![tactic(auto)]
 
 mod change;
 mod context;
 mod declare;
+mod direct;
 mod domain;
 mod each;
 mod fold;

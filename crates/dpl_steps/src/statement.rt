@@ -18,9 +18,9 @@ ghost use Rattle.dpl_values.specs.Reductions.{MayRefuseReduction, EachInRange};
 ghost use Rattle.dpl_readings.specs.Readings.{step_in, else_in, steps_in};
 ghost use Rattle.dpl_elements.specs.Turns.{in_turn, turn_in_memory, looped_over};
 
-use crate::change::change_int;
 use crate::context::Context;
 use crate::declare::declare_array;
+use crate::direct::{direct_statement, is_met};
 use crate::domain::{declare_domain, set_domain};
 use crate::each::for_each;
 use crate::simple;
@@ -30,7 +30,7 @@ use dpl_loop::RunStop;
 use dpl_loop::stop::told;
 use dpl_nodes::{BoolExpr, Else, RangeExpr, Spot, Step};
 use dpl_range::Range;
-use dpl_values::{Team, range_value, truth_value};
+use dpl_values::{Team, direct_truth, range_value, truth_value};
 
 /// What a loop runs over: its range is evaluated once, and its size is tested against the budget.
 ///
@@ -72,13 +72,17 @@ pub fn run<'t, C: Context>(
     ensures limits { frame.new.limits ≡ frame.old.limits }
 {
     for step in steps {
-        statement(step, context, frame, out)?;
+        if !direct_statement(step, frame) {
+            statement(step, context, frame, out)?;
+        }
     }
     Ok(())
 }
 
-// One statement.
+// A statement that isn't done directly. The kinds that loops are made of come first, without the room that others need; of an `if` the
+// condition is looked for directly.
 #[cycle(run)]
+#[inline(always)]
 fn statement<'t, C: Context>(
     step: &Step<'t>,
     context: &C,
@@ -91,8 +95,40 @@ fn statement<'t, C: Context>(
     ensures limits { frame.new.limits ≡ frame.old.limits }
 {
     match step {
+        Step::If {
+            condition,
+            body,
+            otherwise,
+        } => match direct_truth(condition, frame) {
+            Some(true) => run(body, context, frame, out),
+            Some(false) => alternative(otherwise, context, frame, out),
+            None => any_statement(step, context, frame, out),
+        },
+        Step::Truth(target, e) => simple::truth(target, e, frame, context),
+        Step::SetElement(name, t, op, sign, e) => simple::element(
+            name, t, *op, sign, e, frame, context,
+        ),
+        _ => any_statement(step, context, frame, out),
+    }
+}
+
+// A statement of any kind.
+#[cycle(run)]
+#[inline(never)]
+fn any_statement<'t, C: Context>(
+    step: &Step<'t>,
+    context: &C,
+    frame: &mut Frame<C::Kept>,
+    out: &mut C::Out,
+) -> Result<(), RunStop>
+    requires ready { C.is_ready context.now }
+    ensures ends { (done : Deeds) → RunsTo (MayRefuseSome (C.may_refuse context.now)) result frame.new.memory (C.having out.new done)
+        (exec frame.old.limits in_memory (step_in C.standing step.now) frame.old.memory (C.having out.old done)) }
+    ensures limits { frame.new.limits ≡ frame.old.limits }
+{
+    match step {
         Step::Nothing => Ok(()),
-        Step::Int(deed, slot, e) => change_int(deed, *slot, e, frame, context),
+        Step::Int(deed, slot, e) => simple::int(deed, *slot, e, frame, context),
         Step::DeclareRange(slot, e) => simple::range(*slot, e, frame, context),
         Step::SetRange(slot, e) => simple::range(*slot, e, frame, context),
         Step::Truth(target, e) => simple::truth(target, e, frame, context),
@@ -156,7 +192,7 @@ fn statement<'t, C: Context>(
     }
 }
 
-// A `for`. The loops are functions of their own, so that a statement that holds no other needs no place for theirs.
+// A `for`. Branches and loops are functions of their own, so that a statement that holds no other needs no place for theirs.
 #[cycle(run)]
 #[inline(never)]
 fn for_loop<'t, C: Context>(
@@ -193,11 +229,16 @@ fn alternative<'t, C: Context>(
 {
     match otherwise {
         Else::Absent => Ok(()),
-        Else::Do(step) => statement(step, context, frame, out),
+        Else::Do(step) => {
+            if direct_statement(step, frame) {
+                return Ok(());
+            }
+            statement(step, context, frame, out)
+        }
     }
 }
 
-// A `while`: the condition is evaluated before each turn, and where it holds a turn has to be left.
+// A `while`: turns are made as long as the condition is found directly, holds, and a turn is left.
 #[cycle(run)]
 #[inline(never)]
 fn while_loop<'t, C: Context>(
@@ -215,6 +256,32 @@ fn while_loop<'t, C: Context>(
     ensures limits { frame.new.limits ≡ frame.old.limits }
 {
     let mut left = frame.budget();
+    while left > 0 && is_met(condition, frame) {
+        left -= 1;
+        run(body, context, frame, out)?;
+    }
+    walked_while(left, at, condition, body, context, frame, out)
+}
+
+// The turns of a `while` from there on where so many are left: the condition is evaluated before each, and where it holds a turn has to be left.
+#[cycle(run)]
+#[inline(never)]
+fn walked_while<'t, C: Context>(
+    most: u64,
+    at: &Spot,
+    condition: &BoolExpr<'t>,
+    body: &[Step<'t>],
+    context: &C,
+    frame: &mut Frame<C::Kept>,
+    out: &mut C::Out,
+) -> Result<(), RunStop>
+    requires ready { C.is_ready context.now }
+    ensures ends { (done : Deeds) → RunsTo (MayRefuseSome (C.may_refuse context.now)) result frame.new.memory (C.having out.new done)
+        (repeated most at.now (holds frame.old.limits in_memory (truth_view condition.now))
+        (exec_all frame.old.limits in_memory (steps_in C.standing body.now)) frame.old.memory (C.having out.old done)) }
+    ensures limits { frame.new.limits ≡ frame.old.limits }
+{
+    let mut left = most;
     while truth_value(condition, frame, context)?.get() {
         if left == 0 {
             return told(Err(Trap::new(FaultCode::Budget, *at)));

@@ -1,11 +1,12 @@
 // Turns of a forall that are made at once, along a row of indices: those whose body is one assignment to an element, or folds an int onto
-// one that is no variable of the loop. The ints are evaluated for several turns, and then put side by side, or folded one after another.
+// one that is no variable of the loop. The right sides are evaluated for several turns, and then put side by side, or folded one after another.
 
 ghost use Rattle.std.specs.Prelude.{◌≡◌, ◌≤◌, true, false};
 ghost use Rattle.dpl_array.specs.Elements.{behind};
-ghost use Rattle.dpl_language.specs.Tree.{IntKind, One, NoStmts, Then};
+ghost use Rattle.dpl_language.specs.Tree.{IntKind, BoolKind, Set, One, NoStmts, Then};
 ghost use Rattle.dpl_standing.specs.Standing.{InTurn};
-ghost use Rattle.dpl_nodes.specs.Typed.{int_view};
+ghost use Rattle.dpl_lowered.specs.Shapes.{nowhere};
+ghost use Rattle.dpl_nodes.specs.Typed.{int_view, truth_view};
 ghost use Rattle.dpl_nodes.specs.Steps.{array_leaf, element_set, int_changed};
 ghost use Rattle.dpl_loop.specs.Runs.{AreDone};
 ghost use Rattle.dpl_readings.specs.Readings.{steps_in};
@@ -17,9 +18,9 @@ use dpl_domain::Index;
 use dpl_elements::put_row;
 use dpl_frame::{Arrays, Frame};
 use dpl_loop::{Row, STRIP, Strip};
-use dpl_nodes::{ArrayName, IndexExpr, IntDeed, IntExpr, Names, Spot, Step};
+use dpl_nodes::{ArrayName, BoolExpr, IndexExpr, IntDeed, IntExpr, Names, Spot, Step, TruthTarget};
 use dpl_strips::index::{coordinate, plane, space};
-use dpl_strips::{Target, turn_ints, turn_row};
+use dpl_strips::{Target, turn_ints, turn_row, turn_truths};
 use dpl_tree::Assign;
 
 // Whether the last coordinate of a row's indices stays in its word through a whole strip.
@@ -91,6 +92,40 @@ fn assign_row<'t, A: Arrays>(
     made
 }
 
+// The same of an element that is a truth value.
+fn truth_row<'t, A: Arrays>(
+    names: &Names<'t>,
+    name: &ArrayName<'t>,
+    index: &IndexExpr<'t>,
+    e: &BoolExpr<'t>,
+    row: Row,
+    most: usize,
+    frame: &mut Frame<A>,
+) -> usize
+    ensures most { result ≤ most }
+    ensures done { AreDone (index_turn frame.old.limits names.now
+        (Then (element_set (array_leaf BoolKind name.now) index.now Set nowhere (truth_view e.now)) NoStmts)) row result frame.old.memory frame.new.memory }
+    ensures limits { frame.new.limits ≡ frame.old.limits }
+{
+    if !has_room(row) {
+        return 0;
+    }
+    let Some(at) = turn_row(index, names, name.slot, row, frame) else {
+        return 0;
+    };
+    let target = Target {
+        slot: name.slot,
+        at,
+    };
+    let mut strip = Strip::none(row);
+    turn_truths(e, names, &target, frame, &mut strip);
+    let made = put_row(name, Assign::Set, name.at, at, &mut strip, most, frame);
+    if made > 0 {
+        bind(names, behind(row, made - 1), frame);
+    }
+    made
+}
+
 // Whether a variable of the loop is the int in a slot.
 fn is_variable(names: &Names<'_>, slot: usize) -> bool
     ensures { result ≡ false → IsApart names.now slot }
@@ -137,7 +172,7 @@ fn fold_row<'t, A: Arrays>(
 }
 
 /// Makes the turns of a row's indices, at most so many, where the body is one assignment to an element, or folds an int onto another one, and
-/// its ints are found several at once; how many.
+/// its right sides are found several at once; how many.
 pub fn make_row<'t, A: Arrays>(
     names: &Names<'t>,
     body: &[Step<'t>],
@@ -157,6 +192,9 @@ pub fn make_row<'t, A: Arrays>(
             assign_row(names, name, index, *op, sign, e, row, most, frame)
         }
         Step::Int(deed, slot, e) => fold_row(names, deed, *slot, e, row, most, frame),
+        Step::Truth(TruthTarget::Element(name, index), e) => {
+            truth_row(names, name, index, e, row, most, frame)
+        }
         _ => 0,
     }
 }

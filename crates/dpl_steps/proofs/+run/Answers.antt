@@ -5,7 +5,7 @@ use Rattle.std.proofs.lemmas.Result.{err_from_is_err_and}
 use Rattle.dpl_sets.specs.Ranges.{members_of}
 use Rattle.dpl_language.specs.Tree.{One, Set}
 use Rattle.dpl_language.specs.Values.{Truth}
-use Rattle.dpl_language.specs.Outcome.{then_do, in_order, repeated}
+use Rattle.dpl_language.specs.Outcome.{Done, then_do, in_order, repeated}
 use Rattle.dpl_language.specs.Expressions.{value_of}
 use Rattle.dpl_language.specs.Statements.{holds, exec, exec_all}
 use Rattle.dpl_lowered.specs.Shapes.{nowhere}
@@ -16,6 +16,7 @@ use Rattle.dpl_contents.specs.Range.{range_word}
 use Rattle.dpl_frame.specs.Frames.{Framed}
 use Rattle.dpl_readings.specs.Readings.{step_in, else_in, steps_in}
 use Rattle.dpl_elements.specs.Turns.{turn_in_memory, index_turn}
+use Rattle.dpl_elements.specs.Changes.{ends_as}
 use Rattle.dpl_nodes.proofs.Unread.{cell_read-int, item_read-range}
 use Rattle.dpl_array.proofs.WalkLemmas.{walk-next, walk-end}
 use Rattle.dpl_loop.proofs.Ends.{then_do-halts, halts-alike, ends-alike}
@@ -28,19 +29,32 @@ use Rattle.dpl_readings.proofs.Views.{for_each_in, forall_in, block_in, if_in, w
 use Rattle.dpl_steps.proofs.+run.Goals as goal
 
 -- DECLARATIONS AND ASSIGNMENTS
-pub statement::statement-returns-in-Int-clause-ends : goal.statement::statement-returns-in-Int-clause-ends
-statement::statement-returns-in-Int-clause-ends g t c done =
+pub statement::statement-returns-in-Truth-clause-ends : goal.statement::statement-returns-in-Truth-clause-ends
+statement::statement-returns-in-Truth-clause-ends g t c done =
     let having = g.C.Context.having in
     let standing = g.C.Context.standing in
-    let limits = c.args.frame.now.limits in
-    let w = c.args.frame.now.memory in
     let d = having c.args.out.now done in
-    gives-ends _ c.change_int.result c.change_int.new.frame.memory d _ _
-    (ap (λ s. exec limits in_memory (step_in standing s) w d) c.in-Int.is ∙ exec-int limits c.in-Int.deed c.in-Int.slot (One (int_view c.in-Int.e.now)) w d (cell_read-int c.in-Int.e.now))
-    c.change_int.ensures.memory
+    ends-alike _ c.truth.result c.truth.new.frame.memory d _ _
+    (ap (λ s. exec c.args.frame.now.limits in_memory (step_in standing s) c.args.frame.now.memory d) c.in-Truth.is) (c.truth.ensures.ends d)
 
-pub statement::statement-returns-in-DeclareRange-clause-ends : goal.statement::statement-returns-in-DeclareRange-clause-ends
-statement::statement-returns-in-DeclareRange-clause-ends g t c done =
+pub statement::statement-returns-in-SetElement-clause-ends : goal.statement::statement-returns-in-SetElement-clause-ends
+statement::statement-returns-in-SetElement-clause-ends g t c done =
+    let having = g.C.Context.having in
+    let standing = g.C.Context.standing in
+    let d = having c.args.out.now done in
+    ends-alike _ c.element.result c.element.new.frame.memory d _ _
+    (ap (λ s. exec c.args.frame.now.limits in_memory (step_in standing s) c.args.frame.now.memory d) c.in-SetElement.is) (c.element.ensures.ends d)
+
+pub statement::any_statement-returns-in-Int-clause-ends : goal.statement::any_statement-returns-in-Int-clause-ends
+statement::any_statement-returns-in-Int-clause-ends g t c done =
+    let having = g.C.Context.having in
+    let standing = g.C.Context.standing in
+    let d = having c.args.out.now done in
+    ends-alike _ c.int.result c.int.new.frame.memory d _ _
+    (ap (λ s. exec c.args.frame.now.limits in_memory (step_in standing s) c.args.frame.now.memory d) c.in-Int.is) (c.int.ensures.ends d)
+
+pub statement::any_statement-returns-in-DeclareRange-clause-ends : goal.statement::any_statement-returns-in-DeclareRange-clause-ends
+statement::any_statement-returns-in-DeclareRange-clause-ends g t c done =
     let having = g.C.Context.having in
     let standing = g.C.Context.standing in
     let limits = c.args.frame.now.limits in
@@ -50,8 +64,8 @@ statement::statement-returns-in-DeclareRange-clause-ends g t c done =
     (ap (λ s. exec limits in_memory (step_in standing s) w d) c.in-DeclareRange.is ∙ exec-declared limits RangeLeaf c.in-DeclareRange.slot (range_item c.in-DeclareRange.e.now) w d (item_read-range c.in-DeclareRange.e.now))
     (c.range.ensures.ends d)
 
-pub statement::statement-returns-in-SetRange-clause-ends : goal.statement::statement-returns-in-SetRange-clause-ends
-statement::statement-returns-in-SetRange-clause-ends g t c done =
+pub statement::any_statement-returns-in-SetRange-clause-ends : goal.statement::any_statement-returns-in-SetRange-clause-ends
+statement::any_statement-returns-in-SetRange-clause-ends g t c done =
     let having = g.C.Context.having in
     let standing = g.C.Context.standing in
     let limits = c.args.frame.now.limits in
@@ -61,8 +75,8 @@ statement::statement-returns-in-SetRange-clause-ends g t c done =
     (ap (λ s. exec limits in_memory (step_in standing s) w d) c.in-SetRange.is ∙ exec-assigned limits RangeLeaf c.in-SetRange.slot Set nowhere (range_item c.in-SetRange.e.now) w d (item_read-range c.in-SetRange.e.now))
     (c.range-in-SetRange.ensures.ends d)
 
-pub statement::statement-returns-in-Truth-clause-ends : goal.statement::statement-returns-in-Truth-clause-ends
-statement::statement-returns-in-Truth-clause-ends g t c done =
+pub statement::any_statement-returns-in-Truth-clause-ends : goal.statement::any_statement-returns-in-Truth-clause-ends
+statement::any_statement-returns-in-Truth-clause-ends g t c done =
     let having = g.C.Context.having in
     let standing = g.C.Context.standing in
     let d = having c.args.out.now done in
@@ -109,24 +123,24 @@ statement::turns-loop-k-preserved g t c =
     }
 
 -- DOMAINS AND ARRAYS
-pub statement::statement-returns-in-DeclareDomain-clause-ends : goal.statement::statement-returns-in-DeclareDomain-clause-ends
-statement::statement-returns-in-DeclareDomain-clause-ends g t c done =
+pub statement::any_statement-returns-in-DeclareDomain-clause-ends : goal.statement::any_statement-returns-in-DeclareDomain-clause-ends
+statement::any_statement-returns-in-DeclareDomain-clause-ends g t c done =
     let having = g.C.Context.having in
     let standing = g.C.Context.standing in
     let d = having c.args.out.now done in
     ends-alike _ c.declare_domain.result c.declare_domain.new.frame.memory d _ _
     (ap (λ s. exec c.args.frame.now.limits in_memory (step_in standing s) c.args.frame.now.memory d) c.in-DeclareDomain.is) (c.declare_domain.ensures.ends d)
 
-pub statement::statement-returns-in-SetDomain-clause-ends : goal.statement::statement-returns-in-SetDomain-clause-ends
-statement::statement-returns-in-SetDomain-clause-ends g t c done =
+pub statement::any_statement-returns-in-SetDomain-clause-ends : goal.statement::any_statement-returns-in-SetDomain-clause-ends
+statement::any_statement-returns-in-SetDomain-clause-ends g t c done =
     let having = g.C.Context.having in
     let standing = g.C.Context.standing in
     let d = having c.args.out.now done in
     ends-alike _ c.set_domain.result c.set_domain.new.frame.memory d _ _
     (ap (λ s. exec c.args.frame.now.limits in_memory (step_in standing s) c.args.frame.now.memory d) c.in-SetDomain.is) (c.set_domain.ensures.ends d)
 
-pub statement::statement-returns-in-DeclareArray-clause-ends : goal.statement::statement-returns-in-DeclareArray-clause-ends
-statement::statement-returns-in-DeclareArray-clause-ends g t c done =
+pub statement::any_statement-returns-in-DeclareArray-clause-ends : goal.statement::any_statement-returns-in-DeclareArray-clause-ends
+statement::any_statement-returns-in-DeclareArray-clause-ends g t c done =
     let having = g.C.Context.having in
     let standing = g.C.Context.standing in
     let d = having c.args.out.now done in
@@ -134,24 +148,24 @@ statement::statement-returns-in-DeclareArray-clause-ends g t c done =
     (some-of-array _ c.args.frame.now c.in-DeclareArray.declared.now)
     (ap (λ s. exec c.args.frame.now.limits in_memory (step_in standing s) c.args.frame.now.memory d) c.in-DeclareArray.is) (c.declare_array.ensures.ends d)
 
-pub statement::statement-returns-in-SetElement-clause-ends : goal.statement::statement-returns-in-SetElement-clause-ends
-statement::statement-returns-in-SetElement-clause-ends g t c done =
+pub statement::any_statement-returns-in-SetElement-clause-ends : goal.statement::any_statement-returns-in-SetElement-clause-ends
+statement::any_statement-returns-in-SetElement-clause-ends g t c done =
     let having = g.C.Context.having in
     let standing = g.C.Context.standing in
     let d = having c.args.out.now done in
     ends-alike _ c.element.result c.element.new.frame.memory d _ _
     (ap (λ s. exec c.args.frame.now.limits in_memory (step_in standing s) c.args.frame.now.memory d) c.in-SetElement.is) (c.element.ensures.ends d)
 
-pub statement::statement-returns-in-SetArray-clause-ends : goal.statement::statement-returns-in-SetArray-clause-ends
-statement::statement-returns-in-SetArray-clause-ends g t c done =
+pub statement::any_statement-returns-in-SetArray-clause-ends : goal.statement::any_statement-returns-in-SetArray-clause-ends
+statement::any_statement-returns-in-SetArray-clause-ends g t c done =
     let having = g.C.Context.having in
     let standing = g.C.Context.standing in
     let d = having c.args.out.now done in
     ends-wider _ _ c.set_array.result c.set_array.new.frame.memory d _ _ (some-of-whole _ c.args.frame.now (EachInInts c.in-SetArray.e.now) _ _)
     (ap (λ s. exec c.args.frame.now.limits in_memory (step_in standing s) c.args.frame.now.memory d) c.in-SetArray.is) (c.set_array.ensures.ends d)
 
-pub statement::statement-returns-in-SetTruthArray-clause-ends : goal.statement::statement-returns-in-SetTruthArray-clause-ends
-statement::statement-returns-in-SetTruthArray-clause-ends g t c done =
+pub statement::any_statement-returns-in-SetTruthArray-clause-ends : goal.statement::any_statement-returns-in-SetTruthArray-clause-ends
+statement::any_statement-returns-in-SetTruthArray-clause-ends g t c done =
     let having = g.C.Context.having in
     let standing = g.C.Context.standing in
     let d = having c.args.out.now done in
@@ -159,8 +173,8 @@ statement::statement-returns-in-SetTruthArray-clause-ends g t c done =
     (ap (λ s. exec c.args.frame.now.limits in_memory (step_in standing s) c.args.frame.now.memory d) c.in-SetTruthArray.is) (c.set_truth_array.ensures.ends d)
 
 -- BLOCKS, BRANCHES AND LOOPS
-pub statement::statement-returns-in-Block-clause-ends : goal.statement::statement-returns-in-Block-clause-ends
-statement::statement-returns-in-Block-clause-ends g t c done =
+pub statement::any_statement-returns-in-Block-clause-ends : goal.statement::any_statement-returns-in-Block-clause-ends
+statement::any_statement-returns-in-Block-clause-ends g t c done =
     let having = g.C.Context.having in
     let standing = g.C.Context.standing in
     let limits = c.args.frame.now.limits in
@@ -170,8 +184,22 @@ statement::statement-returns-in-Block-clause-ends g t c done =
     (ap (λ s. exec limits in_memory (step_in standing s) w d) c.in-Block.is ∙ ap (λ t. exec limits in_memory t w d) (block_in standing c.in-Block.steps) ∙ scoped-same (exec_all limits in_memory (steps_in standing c.in-Block.steps.now)) w d)
     (c.run.ensures.ends done)
 
-pub statement::statement-returns-then-get-clause-ends : goal.statement::statement-returns-then-get-clause-ends
-statement::statement-returns-then-get-clause-ends g t c done =
+pub statement::statement-returns-in-Some-true-clause-ends : goal.statement::statement-returns-in-Some-true-clause-ends
+statement::statement-returns-in-Some-true-clause-ends g t c done =
+    let having = g.C.Context.having in
+    let standing = g.C.Context.standing in
+    let limits = c.args.frame.now.limits in
+    let w = c.args.frame.now.memory in
+    let d = having c.args.out.now done in
+    let holding : c.in-Some-true.field-0 ≡ true = search rules in
+    ends-alike _ c.run.result c.run.new.frame.memory (having c.run.new.out done) _ _
+    (ap (λ s. exec limits in_memory (step_in standing s) w d) c.in-If.is
+    ∙ ap (λ t. exec limits in_memory t w d) (if_in standing c.in-If.condition c.in-If.body c.in-If.otherwise)
+    ∙ if-then limits (truth_view c.in-If.condition.now) (steps_in standing c.in-If.body.now) (else_in standing c.in-If.otherwise) w d (c.in-Some-true.ensures ∙ ap (λ b. Ok (Truth b)) holding))
+    (c.run.ensures.ends done)
+
+pub statement::any_statement-returns-then-get-clause-ends : goal.statement::any_statement-returns-then-get-clause-ends
+statement::any_statement-returns-then-get-clause-ends g t c done =
     let having = g.C.Context.having in
     let standing = g.C.Context.standing in
     let limits = c.args.frame.now.limits in
@@ -184,8 +212,8 @@ statement::statement-returns-then-get-clause-ends g t c done =
     ∙ if-then limits (truth_view c.in-If.condition.now) (steps_in standing c.in-If.body.now) (else_in standing c.in-If.otherwise) w d (c.in_ok-truth_value-in-If.ensures ∙ ap (λ b. Ok (Truth b)) holding))
     (c.run-then-get.ensures.ends done)
 
-pub statement::statement-returns-in-While-clause-ends : goal.statement::statement-returns-in-While-clause-ends
-statement::statement-returns-in-While-clause-ends g t c done =
+pub statement::any_statement-returns-in-While-clause-ends : goal.statement::any_statement-returns-in-While-clause-ends
+statement::any_statement-returns-in-While-clause-ends g t c done =
     let having = g.C.Context.having in
     let standing = g.C.Context.standing in
     let limits = c.args.frame.now.limits in
@@ -197,8 +225,8 @@ statement::statement-returns-in-While-clause-ends g t c done =
     ∙ exec-while limits c.in-While.at.now (truth_view c.in-While.condition.now) (steps_in standing c.in-While.body.now) w d)
     (c.while_loop.ensures.ends done)
 
-pub statement::statement-returns-in-For-clause-ends : goal.statement::statement-returns-in-For-clause-ends
-statement::statement-returns-in-For-clause-ends g t c done =
+pub statement::any_statement-returns-in-For-clause-ends : goal.statement::any_statement-returns-in-For-clause-ends
+statement::any_statement-returns-in-For-clause-ends g t c done =
     let having = g.C.Context.having in
     let standing = g.C.Context.standing in
     let limits = c.args.frame.now.limits in
@@ -209,8 +237,8 @@ statement::statement-returns-in-For-clause-ends g t c done =
     ∙ ap (λ t. exec limits in_memory t w d) (for_in standing c.in-For.at c.in-For.slot c.in-For.over c.in-For.body))
     (c.for_loop.ensures.ends done)
 
-pub statement::statement-returns-in-Forall-clause-ends : goal.statement::statement-returns-in-Forall-clause-ends
-statement::statement-returns-in-Forall-clause-ends g t c done =
+pub statement::any_statement-returns-in-Forall-clause-ends : goal.statement::any_statement-returns-in-Forall-clause-ends
+statement::any_statement-returns-in-Forall-clause-ends g t c done =
     let having = g.C.Context.having in
     let standing = g.C.Context.standing in
     let limits = c.args.frame.now.limits in
@@ -230,8 +258,60 @@ statement::for_loop-returns-clause-ends g t c done =
     (c.turns.ensures.ends done)
 
 -- WHILES
-pub statement::while_loop-returns-in_err-truth_value-clause-ends : goal.statement::while_loop-returns-in_err-truth_value-clause-ends
-statement::while_loop-returns-in_err-truth_value-clause-ends g t c done =
+pub statement::while_loop-loop-left-preserved : goal.statement::while_loop-loop-left-preserved
+statement::while_loop-loop-left-preserved g t c =
+    let having = g.C.Context.having in
+    let standing = g.C.Context.standing in
+    let limits = c.args.frame.now.limits in
+    let e = truth_view c.args.condition.now in
+    let body = exec_all limits in_memory (steps_in standing c.args.body.now) in
+    let w = c.loop-left.frame.memory in
+    let some : 0 < c.loop-left.left = search rules in
+    let met : c.is_met.result ≡ true = search rules in
+    record {
+      ends = λ done.
+          let d = having c.loop-left.out done in
+          sym (repeated-step c.args.at.now (holds limits in_memory e) body c.loop-left.left w d some (holds-value limits e w true (ap (λ l. value_of l in_memory e None w) (sym c.loop-left.invariant.limits) ∙ c.is_met.ensures met))
+          ∙ ap (λ o. then_do o (repeated (c.loop-left.left - 1) c.args.at.now (holds limits in_memory e) body)) (ap (λ l. exec_all l in_memory (steps_in standing c.args.body.now) w d) (sym c.loop-left.invariant.limits) ∙ c.in_ok-run.ensures.ends done))
+          ∙ c.loop-left.invariant.ends done;
+      limits = c.in_ok-run.ensures.limits ∙ c.loop-left.invariant.limits;
+    }
+
+pub statement::while_loop-returns-in_err-run-clause-ends : goal.statement::while_loop-returns-in_err-run-clause-ends
+statement::while_loop-returns-in_err-run-clause-ends g t c done =
+    let having = g.C.Context.having in
+    let standing = g.C.Context.standing in
+    let limits = c.args.frame.now.limits in
+    let e = truth_view c.args.condition.now in
+    let body = exec_all limits in_memory (steps_in standing c.args.body.now) in
+    let w = c.loop-left.frame.memory in
+    let d = having c.loop-left.out done in
+    let next = c.run.new.frame.memory in
+    let after = having c.run.new.out done in
+    let h = c.in_err-run.field-0.0 in
+    let some : 0 < c.loop-left.left = search rules in
+    let met : c.is_met.result ≡ true = search rules in
+    let p = err_from_is_err_and c.from_residual.result c.from_residual.ensures.1 in
+    rw (p.1, p.2)
+    (halts-alike _ h next next after _ _
+    (sym (c.loop-left.invariant.ends done)
+    ∙ repeated-step c.args.at.now (holds limits in_memory e) body c.loop-left.left w d some (holds-value limits e w true (ap (λ l. value_of l in_memory e None w) (sym c.loop-left.invariant.limits) ∙ c.is_met.ensures met)))
+    (then_do-halts _ h next next after _ (repeated (c.loop-left.left - 1) c.args.at.now (holds limits in_memory e) body)
+    (halts-alike _ h next next after _ _ (ap (λ l. exec_all l in_memory (steps_in standing c.args.body.now) w d) (sym c.loop-left.invariant.limits)) (c.in_err-run.ensures.ends done))))
+
+pub statement::while_loop-returns-clause-ends : goal.statement::while_loop-returns-clause-ends
+statement::while_loop-returns-clause-ends g t c done =
+    let having = g.C.Context.having in
+    let standing = g.C.Context.standing in
+    let e = truth_view c.args.condition.now in
+    ends-alike _ c.walked_while.result c.walked_while.new.frame.memory (having c.walked_while.new.out done) _ _
+    (sym (c.loop-left.invariant.ends done)
+    ∙ ap (λ l. repeated c.loop-left.left c.args.at.now (holds l in_memory e) (exec_all l in_memory (steps_in standing c.args.body.now)) c.loop-left.frame.memory (having c.loop-left.out done)) (sym c.loop-left.invariant.limits))
+    (c.walked_while.ensures.ends done)
+
+-- WHILES, from where turns are left on
+pub statement::walked_while-returns-in_err-truth_value-clause-ends : goal.statement::walked_while-returns-in_err-truth_value-clause-ends
+statement::walked_while-returns-in_err-truth_value-clause-ends g t c done =
     let having = g.C.Context.having in
     let standing = g.C.Context.standing in
     let limits = c.args.frame.now.limits in
@@ -246,8 +326,8 @@ statement::while_loop-returns-in_err-truth_value-clause-ends g t c done =
     ∙ repeated-fault c.args.at.now (holds limits in_memory e) body c.loop-left.left w d f (holds-fault limits e w f (ap (λ l. value_of l in_memory e None w) (sym c.loop-left.invariant.limits) ∙ is)))
     c.in_err-truth_value.ensures)
 
-pub statement::while_loop-loop-left-preserved : goal.statement::while_loop-loop-left-preserved
-statement::while_loop-loop-left-preserved g t c =
+pub statement::walked_while-loop-left-preserved : goal.statement::walked_while-loop-left-preserved
+statement::walked_while-loop-left-preserved g t c =
     let having = g.C.Context.having in
     let standing = g.C.Context.standing in
     let limits = c.args.frame.now.limits in
@@ -265,8 +345,8 @@ statement::while_loop-loop-left-preserved g t c =
       limits = c.in_ok-run.ensures.limits ∙ c.loop-left.invariant.limits;
     }
 
-pub statement::while_loop-returns-in_err-run-clause-ends : goal.statement::while_loop-returns-in_err-run-clause-ends
-statement::while_loop-returns-in_err-run-clause-ends g t c done =
+pub statement::walked_while-returns-in_err-run-clause-ends : goal.statement::walked_while-returns-in_err-run-clause-ends
+statement::walked_while-returns-in_err-run-clause-ends g t c done =
     let having = g.C.Context.having in
     let standing = g.C.Context.standing in
     let limits = c.args.frame.now.limits in
@@ -287,8 +367,8 @@ statement::while_loop-returns-in_err-run-clause-ends g t c done =
     (then_do-halts _ h next next after _ (repeated (c.loop-left.left - 1) c.args.at.now (holds limits in_memory e) body)
     (halts-alike _ h next next after _ _ (ap (λ l. exec_all l in_memory (steps_in standing c.args.body.now) w d) (sym c.loop-left.invariant.limits)) (c.in_err-run.ensures.ends done))))
 
-pub statement::while_loop-returns-clause-ends : goal.statement::while_loop-returns-clause-ends
-statement::while_loop-returns-clause-ends g t c done =
+pub statement::walked_while-returns-clause-ends : goal.statement::walked_while-returns-clause-ends
+statement::walked_while-returns-clause-ends g t c done =
     let having = g.C.Context.having in
     let standing = g.C.Context.standing in
     let limits = c.args.frame.now.limits in
@@ -300,8 +380,8 @@ statement::while_loop-returns-clause-ends g t c done =
     (holds-value limits e w false (ap (λ l. value_of l in_memory e None w) (sym c.loop-left.invariant.limits) ∙ c.in_ok-truth_value.ensures ∙ ap (λ b. Ok (Truth b)) holding))
 
 -- LOOPS OVER DOMAINS
-pub statement::statement-returns-in-ForEach-clause-ends : goal.statement::statement-returns-in-ForEach-clause-ends
-statement::statement-returns-in-ForEach-clause-ends g t c done =
+pub statement::any_statement-returns-in-ForEach-clause-ends : goal.statement::any_statement-returns-in-ForEach-clause-ends
+statement::any_statement-returns-in-ForEach-clause-ends g t c done =
     let having = g.C.Context.having in
     let standing = g.C.Context.standing in
     let limits = c.args.frame.now.limits in
@@ -312,8 +392,8 @@ statement::statement-returns-in-ForEach-clause-ends g t c done =
     ∙ ap (λ t. exec limits in_memory t w d) (for_each_in standing c.in-ForEach.at c.in-ForEach.names c.in-ForEach.over c.in-ForEach.body))
     (c.for_each.ensures.ends done)
 
-pub statement::statement-returns-in-ForallEach-clause-ends : goal.statement::statement-returns-in-ForallEach-clause-ends
-statement::statement-returns-in-ForallEach-clause-ends g t c done =
+pub statement::any_statement-returns-in-ForallEach-clause-ends : goal.statement::any_statement-returns-in-ForallEach-clause-ends
+statement::any_statement-returns-in-ForallEach-clause-ends g t c done =
     let having = g.C.Context.having in
     let standing = g.C.Context.standing in
     let limits = c.args.frame.now.limits in

@@ -29,6 +29,17 @@ invariant-statement::while_loop-loop-left g l = record {
 abbrev pub decreases-statement::while_loop-loop-left : goal.decreases-statement::while_loop-loop-left
 decreases-statement::while_loop-loop-left g l = l.left
 
+abbrev pub invariant-statement::walked_while-loop-left : goal.invariant-statement::walked_while-loop-left
+invariant-statement::walked_while-loop-left g l = record {
+  ends : (done : Deeds) → let limits = l.initial.frame.limits in
+      repeated l.left l.at (holds limits in_memory (truth_view l.condition)) (exec_all limits in_memory (steps_in g.C.Context.standing l.body)) l.frame.memory (g.C.Context.having l.out done)
+      ≡ repeated l.most l.at (holds limits in_memory (truth_view l.condition)) (exec_all limits in_memory (steps_in g.C.Context.standing l.body)) l.initial.frame.memory (g.C.Context.having l.initial.out done);
+  limits : l.frame.limits ≡ l.initial.frame.limits;
+}
+
+abbrev pub decreases-statement::walked_while-loop-left : goal.decreases-statement::walked_while-loop-left
+decreases-statement::walked_while-loop-left g l = l.left
+
 -- the turns that are left, from here, are all turns from the start
 abbrev pub invariant-statement::turns-loop-k : goal.invariant-statement::turns-loop-k
 invariant-statement::turns-loop-k g l = record {

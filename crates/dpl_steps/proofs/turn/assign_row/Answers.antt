@@ -35,8 +35,8 @@ returns-then-made-gt0-clause-done g c =
     ∙ ap (λ (f : Framed). bound_at names (behind last first) f.memory) put.1
     ∙ bound_at-over names (behind last first) f.memory put.0 in
     subst (λ (m : Memory). AreDone turn first made f.memory m) (sym memory)
-    (row-made f.limits names c.args.name.now c.args.index.now c.args.op c.args.sign.now c.args.e.now first c.in-Some.at c.turn_ints.new.strip made f.memory put.0 put.2
-    (c.turn_ints.ensures.row ∙ c.none-strip.ensures.row) c.put_row-made.ensures.strip c.put_row-made.ensures.cap c.turn_ints.ensures.values c.in-Some.ensures last some)
+    (row-made f.limits names c.args.name.now c.args.index.now c.args.op c.args.sign.now first c.in-Some.at c.turn_ints.new.strip made f.memory put.0 put.2
+    (c.turn_ints.ensures.row ∙ c.none-strip.ensures.row) c.put_row-made.ensures.strip c.put_row-made.ensures.cap c.in-Some.ensures c.args.e.now c.turn_ints.ensures.values last some)
 
 pub returns-else-made-gt0-clause-done : goal.returns-else-made-gt0-clause-done
 returns-else-made-gt0-clause-done g c =
@@ -48,5 +48,5 @@ returns-else-made-gt0-clause-done g c =
     let none : made ≡ 0 = omega (arith, c.if-made-gt0.false) in
     let turn = index_turn f.limits names (Then (element_set (array_leaf IntKind c.args.name.now) c.args.index.now c.args.op c.args.sign.now (int_view c.args.e.now)) NoStmts) in
     subst (λ (m : Memory). AreDone turn first made f.memory m) (sym (ap (λ (f : Framed). f.memory) put.1))
-    (row-done f.limits names c.args.name.now c.args.index.now c.args.op c.args.sign.now c.args.e.now first c.in-Some.at c.turn_ints.new.strip made f.memory put.0 put.2
-    (c.turn_ints.ensures.row ∙ c.none-strip.ensures.row) c.put_row-made.ensures.strip c.put_row-made.ensures.cap c.turn_ints.ensures.values c.in-Some.ensures none)
+    (row-done f.limits names c.args.name.now c.args.index.now c.args.op c.args.sign.now first c.in-Some.at c.turn_ints.new.strip made f.memory put.0 put.2
+    (c.turn_ints.ensures.row ∙ c.none-strip.ensures.row) c.put_row-made.ensures.strip c.put_row-made.ensures.cap c.in-Some.ensures c.args.e.now c.turn_ints.ensures.values none)

@@ -12,3 +12,6 @@ returns-in_default-2-clause-done g c = none-done _ c.args.row c.args.frame.now.m
 
 pub returns-in_default-step : goal.returns-in_default-step
 returns-in_default-step g c = record { most = omega arith; done = none-done _ c.args.row c.args.frame.now.memory; limits = refl }
+
+pub returns-in_default-step-2 : goal.returns-in_default-step-2
+returns-in_default-step-2 g c = record { most = omega arith; done = none-done _ c.args.row c.args.frame.now.memory; limits = refl }
