@@ -52,7 +52,7 @@ use Rattle.dpl_typer.proofs.Sights.{lookup-name}
 use Rattle.dpl_runnable.proofs.Around.{Turning, forall_by, sight_by, Stands, MayDoIn, first-done, second-done, forall-refuted, enter-stands, loop-stands, behind-stands}
 
 -- ---- what is told first is the same
-abbrev itself : Text → Text
+abbrev pub itself : Text → Text
 itself x = x
 
 -- the first of a forall's written arrays is the first of which its text writes an element
@@ -60,10 +60,10 @@ abbrev pub IsFirst : ForallIn → Type 0
 IsFirst f = first_name (written_arrays (scope_in f) (deeds_in f)) ≡ first_in_body itself f.body
 
 -- ---- each array in sight is declared where at most so many scopes are open
-abbrev IsWithin : ℕ → Declared → Type 0
+abbrev pub IsWithin : ℕ → Declared → Type 0
 IsWithin depth d = has is_array d.type ≡ true → is_outside depth d ≡ true
 
-abbrev AreWithin : ℕ → Scopes → Type 0
+abbrev pub AreWithin : ℕ → Scopes → Type 0
 AreWithin depth ss = (x : Text) (d : Declared) → lookup ss x ≡ Some d → IsWithin depth d
 
 no-array : (d : Declared) (depth : ℕ) → has is_array d.type ≡ false → IsWithin depth d
@@ -118,7 +118,7 @@ within-variables depth o plain (x ∷ xs) ss within =
     let d : Declared = record { origin = origin_in ss x.name; sort = LoopVariable; type = o } in
     within-variables depth o plain xs (add d ss) (within-add depth d ss within (no-array d depth plain))
 
-within-loop : (depth : ℕ) (word : LoopWord) (xs : VariablesTree Text) (item : ItemTree Text) (ss : Scopes) → AreWithin depth ss → AreWithin depth (in_loop ss word xs item)
+pub within-loop : (depth : ℕ) (word : LoopWord) (xs : VariablesTree Text) (item : ItemTree Text) (ss : Scopes) → AreWithin depth ss → AreWithin depth (in_loop ss word xs item)
 within-loop depth word xs item ss within =
     within-variables depth (typed_variable word xs (over_type ss item)) (typed_variable-plain word xs (over_type ss item)) (variables_of xs) (enter ss) within
 
@@ -189,7 +189,7 @@ array-typed Locale l e p = absurd cc
 array-typed AllLocales l e p = absurd cc
 array-typed (Cell k) l e p = absurd cc
 
-named-array : (d : Declared) (l : Kind) → IsNamed d.type → kind_by d.type ≡ Some (ArrayKind l) → has is_array d.type ≡ true
+pub named-array : (d : Declared) (l : Kind) → IsNamed d.type → kind_by d.type ≡ Some (ArrayKind l) → has is_array d.type ≡ true
 named-array d l named e =
     ap (has is_array) named.is ∙ array-typed named.type l (subst (λ o. kind_by o ≡ Some (ArrayKind l)) named.is e) named.single
 
@@ -216,7 +216,7 @@ module _ (f : Turning) where
       let own = first-done (Some f) held (type_deeds ss type) (first-done (Some f) (held ++ type_deeds ss type) (initial_deeds ss d.initial) m) in
       declared-plain ss d (apart-held (deed_breaches loop_of f.written) (is_apart ss type d.initial) (first_of_declaration d) (λ e. absurd cc) own) h
 
-  within-behind : (ss : Scopes) (t : StmtTree Text) → AreWithin depth_of ss → stmt_breaches (sight_by (Some f) ss) t ≡ [] → MayDoIn (Some f) (stmt_deeds ss t) → AreWithin depth_of (behind ss t)
+  pub within-behind : (ss : Scopes) (t : StmtTree Text) → AreWithin depth_of ss → stmt_breaches (sight_by (Some f) ss) t ≡ [] → MayDoIn (Some f) (stmt_deeds ss t) → AreWithin depth_of (behind ss t)
   within-behind ss (Nothing at) within h m = within
   within-behind ss (Declare d) within h m = within-add depth_of (declared_by ss d) ss within (no-array (declared_by ss d) depth_of (turn-declared ss d h m))
   within-behind ss (Assigned target sign item semicolon) within h m = within
@@ -409,9 +409,9 @@ module _ (f : Turning) where
     turn_else-none (ElseDo at t) ss m = turn-none t ss m
 
 -- ---- a program
-all-both : (fs gs : List ForallIn) → AllByRecursion IsFirst fs → AllByRecursion IsFirst gs → AllByRecursion IsFirst (fs ++ gs)
-all-both [] gs p q = q
-all-both (f ∷ fs) gs p q = (p.0, all-both fs gs p.1 q)
+all-both : (P : ForallIn → Type 0) (fs gs : List ForallIn) → AllByRecursion P fs → AllByRecursion P gs → AllByRecursion P (fs ++ gs)
+all-both P [] gs p q = q
+all-both P (f ∷ fs) gs p q = (p.0, all-both P fs gs p.1 q)
 
 within-enter : (ss : Scopes) → AreWithin (length ss) ss → AreWithin (length (enter ss)) (enter ss)
 within-enter ss within = weaker (length ss) (length (enter ss)) (omega arith) ss within
@@ -440,71 +440,82 @@ within-after ss (Forall at xs word item intents body) within = within
 within-after ss (Coforall at xs word item intents body) within = within
 within-after ss (On at e body) within = within
 
-mutual
-  firsts : (t : StmtTree Text) (ss : Scopes) → Stands None ss → AreWithin (length ss) ss → StmtSpelt IsNear ⊥ t → UntaskedStmt t → stmt_breaches (sight_by None ss) t ≡ [] → AllByRecursion IsFirst (foralls ss t)
-  firsts (Nothing at) ss stands within s c h = tt
-  firsts (Declare d) ss stands within s c h = tt
-  firsts (Assigned target sign item semicolon) ss stands within s c h = tt
-  firsts (Call x dot call semicolon) ss stands within s c h = tt
-  firsts (Write t) ss stands within s c h = tt
-  firsts (Block from ts upto) ss stands within s c h = stmts-firsts ts (enter ss) (enter-stands None ss stands) (within-enter ss within) s.1 c h
-  firsts (If at e first second) ss stands within s c h =
-      let inner = enter ss in
-      let test = condition_breaches (sight_by None ss) e in
-      let one = body_breaches (sight_by None inner) first in
-      let other = else_breaches (sight_by None inner) second in
-      all-both (body_foralls inner first) (else_foralls inner second)
-      (body-firsts first inner (enter-stands None ss stands) (within-enter ss within) s.2 c.1 (second_empty test one (first_empty (test ++ one) other h)))
-      (else-firsts second inner (enter-stands None ss stands) (within-enter ss within) s.3 c.2 (second_empty (test ++ one) other h))
-  firsts (While at e body) ss stands within s c h =
-      body-firsts body (enter ss) (enter-stands None ss stands) (within-enter ss within) s.2 c.1
-      (second_empty (condition_breaches (sight_by None ss) e) (body_breaches (sight_by None (enter ss)) body) h)
-  firsts (For at xs word item body) ss stands within s c h =
-      let inner = in_loop ss ForWord xs item in
-      let head = header_breaches ss ForWord xs item in
-      let others = body_breaches (sight_by None inner) body in
-      body-firsts body inner (loop-stands IsNear ss None ForWord xs item stands s.3 c.0 (first_empty head others h)) (within-inner ss ForWord xs item within) s.4 c.1 (second_empty head others h)
-  firsts (Forall at xs word item intents body) ss stands within s c h =
-      let inner = in_loop ss ForallWord xs item in
-      let ds = body_deeds inner body in
-      let loop = forall_scope ss xs intents in
-      let heads = header_breaches ss ForallWord xs item ++ with_breaches ss intents in
-      let told = forall_breaches loop ds in
-      let others = body_breaches (in_forall (sight_by None ss) xs item intents) body in
-      let may = second_empty heads told (first_empty (heads ++ told) others h) in
-      let f : Turning = record { outer = ss; variables = xs; intents = intents; written = written_arrays loop ds } in (
-        forall-first ss stands within at xs word item intents body s c h,
-        subst (AllByRecursion IsFirst) (sym (turn_body-none f body inner may)) tt,
-      )
-  firsts (Coforall at xs word item intents body) ss stands within s c h = absurd c
-  firsts (On at e body) ss stands within s c h = absurd c
+-- what is so of each forall outside of others, where it stands, is so of each of a program's
+abbrev pub IsLaw : (ForallIn → Type 0) → Type 0
+IsLaw P =
+    (ss : Scopes) → Stands None ss → AreWithin (length ss) ss → (at : Place) (xs : VariablesTree Text) (word : Place) (item : ItemTree Text) (intents : Option (WithTree Text)) (body : Body Text)
+    → StmtSpelt IsNear ⊥ (Forall at xs word item intents body) → UntaskedStmt (Forall at xs word item intents body) → stmt_breaches (sight_by None ss) (Forall at xs word item intents body) ≡ []
+    → P (record { at = at; scopes = ss; variables = xs; over = item; intents = intents; body = body })
 
-  body-firsts : (t : Body Text) (ss : Scopes) → Stands None ss → AreWithin (length ss) ss → BodySpelt IsNear ⊥ t → UntaskedBody t → body_breaches (sight_by None ss) t ≡ [] → AllByRecursion IsFirst (body_foralls ss t)
-  body-firsts (WordBody at t) ss stands within s c h = firsts t ss stands within s.1 c h
-  body-firsts (BlockBody from ts upto) ss stands within s c h = stmts-firsts ts ss stands within s.1 c h
+module _ (P : ForallIn → Type 0) (law : IsLaw P) where
+  mutual
+    laws : (t : StmtTree Text) (ss : Scopes) → Stands None ss → AreWithin (length ss) ss → StmtSpelt IsNear ⊥ t → UntaskedStmt t → stmt_breaches (sight_by None ss) t ≡ [] → AllByRecursion P (foralls ss t)
+    laws (Nothing at) ss stands within s c h = tt
+    laws (Declare d) ss stands within s c h = tt
+    laws (Assigned target sign item semicolon) ss stands within s c h = tt
+    laws (Call x dot call semicolon) ss stands within s c h = tt
+    laws (Write t) ss stands within s c h = tt
+    laws (Block from ts upto) ss stands within s c h = stmts-laws ts (enter ss) (enter-stands None ss stands) (within-enter ss within) s.1 c h
+    laws (If at e first second) ss stands within s c h =
+        let inner = enter ss in
+        let test = condition_breaches (sight_by None ss) e in
+        let one = body_breaches (sight_by None inner) first in
+        let other = else_breaches (sight_by None inner) second in
+        all-both P (body_foralls inner first) (else_foralls inner second)
+        (body-laws first inner (enter-stands None ss stands) (within-enter ss within) s.2 c.1 (second_empty test one (first_empty (test ++ one) other h)))
+        (else-laws second inner (enter-stands None ss stands) (within-enter ss within) s.3 c.2 (second_empty (test ++ one) other h))
+    laws (While at e body) ss stands within s c h =
+        body-laws body (enter ss) (enter-stands None ss stands) (within-enter ss within) s.2 c.1
+        (second_empty (condition_breaches (sight_by None ss) e) (body_breaches (sight_by None (enter ss)) body) h)
+    laws (For at xs word item body) ss stands within s c h =
+        let inner = in_loop ss ForWord xs item in
+        let head = header_breaches ss ForWord xs item in
+        let others = body_breaches (sight_by None inner) body in
+        body-laws body inner (loop-stands IsNear ss None ForWord xs item stands s.3 c.0 (first_empty head others h)) (within-inner ss ForWord xs item within) s.4 c.1 (second_empty head others h)
+    laws (Forall at xs word item intents body) ss stands within s c h =
+        let inner = in_loop ss ForallWord xs item in
+        let ds = body_deeds inner body in
+        let loop = forall_scope ss xs intents in
+        let heads = header_breaches ss ForallWord xs item ++ with_breaches ss intents in
+        let told = forall_breaches loop ds in
+        let others = body_breaches (in_forall (sight_by None ss) xs item intents) body in
+        let may = second_empty heads told (first_empty (heads ++ told) others h) in
+        let f : Turning = record { outer = ss; variables = xs; intents = intents; written = written_arrays loop ds } in (
+          law ss stands within at xs word item intents body s c h,
+          subst (AllByRecursion P) (sym (turn_body-none f body inner may)) tt,
+        )
+    laws (Coforall at xs word item intents body) ss stands within s c h = absurd c
+    laws (On at e body) ss stands within s c h = absurd c
 
-  stmts-firsts : (ts : Stmts Text) (ss : Scopes) → Stands None ss → AreWithin (length ss) ss → StmtsSpelt IsNear ⊥ ts → UntaskedStmts ts → stmts_breaches (sight_by None ss) ts ≡ [] → AllByRecursion IsFirst (all_foralls ss ts)
-  stmts-firsts NoStmts ss stands within s c h = tt
-  stmts-firsts (Then t rest) ss stands within s c h =
-      let own = stmt_breaches (sight_by None ss) t in
-      let others = stmts_breaches (sight_by None (behind ss t)) rest in
-      let unbroken = first_empty own others h in
-      all-both (foralls ss t) (all_foralls (behind ss t) rest) (firsts t ss stands within s.0 c.0 unbroken)
-      (stmts-firsts rest (behind ss t) (behind-stands IsNear ss None t stands s.0 c.0 unbroken) (within-after ss t within) s.1 c.1 (second_empty own others h))
+    body-laws : (t : Body Text) (ss : Scopes) → Stands None ss → AreWithin (length ss) ss → BodySpelt IsNear ⊥ t → UntaskedBody t → body_breaches (sight_by None ss) t ≡ [] → AllByRecursion P (body_foralls ss t)
+    body-laws (WordBody at t) ss stands within s c h = laws t ss stands within s.1 c h
+    body-laws (BlockBody from ts upto) ss stands within s c h = stmts-laws ts ss stands within s.1 c h
 
-  else-firsts : (t : Else Text) (ss : Scopes) → Stands None ss → AreWithin (length ss) ss → ElseSpelt IsNear ⊥ t → UntaskedElse t → else_breaches (sight_by None ss) t ≡ [] → AllByRecursion IsFirst (else_foralls ss t)
-  else-firsts NoElse ss stands within s c h = tt
-  else-firsts (ElseDo at t) ss stands within s c h = firsts t ss stands within s.1 c h
+    stmts-laws : (ts : Stmts Text) (ss : Scopes) → Stands None ss → AreWithin (length ss) ss → StmtsSpelt IsNear ⊥ ts → UntaskedStmts ts → stmts_breaches (sight_by None ss) ts ≡ [] → AllByRecursion P (all_foralls ss ts)
+    stmts-laws NoStmts ss stands within s c h = tt
+    stmts-laws (Then t rest) ss stands within s c h =
+        let own = stmt_breaches (sight_by None ss) t in
+        let others = stmts_breaches (sight_by None (behind ss t)) rest in
+        let unbroken = first_empty own others h in
+        all-both P (foralls ss t) (all_foralls (behind ss t) rest) (laws t ss stands within s.0 c.0 unbroken)
+        (stmts-laws rest (behind ss t) (behind-stands IsNear ss None t stands s.0 c.0 unbroken) (within-after ss t within) s.1 c.1 (second_empty own others h))
+
+    else-laws : (t : Else Text) (ss : Scopes) → Stands None ss → AreWithin (length ss) ss → ElseSpelt IsNear ⊥ t → UntaskedElse t → else_breaches (sight_by None ss) t ≡ [] → AllByRecursion P (else_foralls ss t)
+    else-laws NoElse ss stands within s c h = tt
+    else-laws (ElseDo at t) ss stands within s c h = laws t ss stands within s.1 c h
+
+  pub program-laws : (ts : Stmts Text) → StmtsSpelt IsNear ⊥ ts → UntaskedStmts ts → stmts_breaches top_sight ts ≡ [] → AllByRecursion P (all_foralls top ts)
+  program-laws ts s c h = stmts-laws ts top (record { names = top-variables; around = tt }) (λ x d e a. absurd (none-some d e)) s c h
 
 -- of each forall of a program that breaks no rule
 pub program-firsts : (ts : Stmts Text) → StmtsSpelt IsNear ⊥ ts → UntaskedStmts ts → stmts_breaches top_sight ts ≡ [] → AllByRecursion IsFirst (all_foralls top ts)
-program-firsts ts s c h = stmts-firsts ts top (record { names = top-variables; around = tt }) (λ x d e a. absurd (none-some d e)) s c h
+program-firsts ts s c h = program-laws IsFirst forall-first ts s c h
 
 -- ---- with resolved names: what is written first in the tree that runs is the slot of a name, whose text is the one that the text writes first
-abbrev bound_itself : Bound → Bound
+abbrev pub bound_itself : Bound → Bound
 bound_itself x = x
 
-abbrev bound_slot : Bound → ℕ
+abbrev pub bound_slot : Bound → ℕ
 bound_slot x = (variable_of x).slot
 
 module _ (body : Body Text) (bound : Body Bound) (spelled : renamed_body text_of bound ≡ body) where

@@ -14,3 +14,10 @@ pub mod Runnable
 pub mod Declared
 -- By which array's map turns are dealt out is what the rules say.
 pub mod FirstWritten
+pub mod OuterArrays
+-- The foralls that a run enters are those of the program's run by names, and their turns are dealt out by the definition's map.
+pub mod EnteredAlike
+pub mod EnteredLowered
+pub mod ForallsStand
+pub mod TurnsMap
+pub mod Dealt

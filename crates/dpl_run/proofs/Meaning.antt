@@ -104,7 +104,7 @@ module _ (t : ProgramTree Text) (sets : List (List ℕ)) (slots : ℕ) (scopes :
   abbrev pub start : Start
   start = record { slots = slots; cells = 0; texts = given t sets; words = words_in scopes sets; histories = None }
 
-  alike : IsGivenAlike scopes start
+  pub alike : IsGivenAlike scopes start
   alike x k slot kind at =
       ap (λ ss. paired x (words_by ss sets)) (sym plan.behind)
       ∙ given-alike scopes x k slot (declared-kind (type_declared (lookup scopes x)) k kind) at [] sets (ap (λ ss. sets_fit ss [] sets) plan.behind ∙ fit)

@@ -42,7 +42,7 @@ configured-given start ss x alike (Some d) found config =
     let slot = some-slot (slot_in ss x) (slot_in-lookup ss x ∙ ap is_some found) in
     given-leaf start ss x config.1.0 slot.0 alike (ap (λ o. kind_by (type_declared o)) found ∙ config.1.1) slot.1
 
-are-given : (start : Start) (ss : Scopes) → IsGivenAlike ss start → AreGiven start ss
+pub are-given : (start : Start) (ss : Scopes) → IsGivenAlike ss start → AreGiven start ss
 are-given start ss alike x config = configured-given start ss x alike (lookup ss x) refl config
 
 pub planned : (t : ProgramTree Text) (slots : ℕ) (scopes : Scopes) (steps : List Step) → (lowered_program known_variable (renamed_program variable_of (bound_program t))).stmts ≡ steps_of steps

@@ -34,25 +34,25 @@ all-near [] h = tt
 all-near (k ∷ ks) h = (near k.at h.0, all-near ks h.1)
 
 -- a tree that has no refusal breaks no rule
-unbroken : (b : Option Breach) (fit : _) → refusal_by b fit ≡ None → b ≡ None
+pub unbroken : (b : Option Breach) (fit : _) → refusal_by b fit ≡ None → b ≡ None
 unbroken None fit e = refl
 unbroken (Some b) fit e = absurd cc
 
 -- of a sound program the walk over its statements tells no breach
-walk-unbroken : (t : ProgramTree Text) → IsSound t → stmts_breaches top_sight t.stmts ≡ []
+pub walk-unbroken : (t : ProgramTree Text) → IsSound t → stmts_breaches top_sight t.stmts ≡ []
 walk-unbroken t h =
     let within = stmts_breaches top_sight t.stmts in
     let reductions = inner_reductions (stmts_deeds top t.stmts) in
     first_empty within reductions (first_empty (within ++ reductions) (count_breaches (all_declarations t.stmts)) h)
 
 module _ (text : List ℕ) (sets : List (List ℕ)) (t : ProgramTree Text) (is : IsProgram text sets t) where
-  spelt : StmtsSpelt IsNear ⊥ t.stmts
-  spelt = Spells-untasked IsNear 64 is.tokens t is.spells (program-open text sets t is) (all-near is.tokens (Lexes-within text is.tokens is.lexes))
+  pub program-spelt : StmtsSpelt IsNear ⊥ t.stmts
+  program-spelt = Spells-untasked IsNear 64 is.tokens t is.spells (program-open text sets t is) (all-near is.tokens (Lexes-within text is.tokens is.lexes))
 
   pub program-untasked : UntaskedStmts t.stmts
-  program-untasked = stmts-untasked IsNear t.stmts spelt
+  program-untasked = stmts-untasked IsNear t.stmts program-spelt
 
   pub program-runs : AreRunnableTops top t.stmts
   program-runs =
       let sound = (sound_exactly t).1 (unbroken (first_breach t) (sets_fit (behind_all top t.stmts) [] sets) (program-unrefused text sets t is)) in
-      program-runnable t.stmts spelt program-untasked (Spells-written 64 is.tokens t is.spells) (walk-unbroken t sound)
+      program-runnable t.stmts program-spelt program-untasked (Spells-written 64 is.tokens t is.spells) (walk-unbroken t sound)

@@ -9,3 +9,6 @@ pub mod Writers
 pub mod Runs
 pub mod Plans
 pub mod Refusing
+-- Which foralls a run enters, and by which map their turns are dealt out.
+pub mod Entered
+pub mod Dealing

@@ -1,0 +1,91 @@
+-- A plan of a program that has no refusal deals out the turns of each forall that its run enters by the definition's map.
+-- And what the tree of its steps says of a forall's map is what the call that makes the forall goes by.
+use Rattle.std.proofs.Common.{◌≡◌, ℕ, ◌≤◌, List, [], None, refl, sym, ap, ◌∙◌, subst}
+use Rattle.std.proofs.Math.Nat.{le_refl}
+use Rattle.dpl_language.specs.Tree.{ProgramTree, One}
+use Rattle.dpl_language.specs.Environment.{Limits}
+use Rattle.dpl_language.specs.Outcome.{no_deeds}
+use Rattle.dpl_language.specs.Names.{Text, by_name}
+use Rattle.dpl_language.specs.Program.{first_state}
+use Rattle.dpl_language.specs.Roots.{derived_from, derived_item}
+use Rattle.dpl_agreement.specs.Renamed.{renamed_program}
+use Rattle.dpl_agreement.specs.Scopes.{fits_all}
+use Rattle.dpl_agreement.specs.Untasked.{UntaskedStmts}
+use Rattle.dpl_spelling.specs.Spelt.{StmtsSpelt}
+use Rattle.dpl_rules.specs.Sights.{Scopes}
+use Rattle.dpl_rules.specs.Breaches.{top, top_sight, stmts_breaches, first_breach}
+use Rattle.dpl_rules.specs.Sound.{behind_all, sets_fit, refusal}
+use Rattle.dpl_rules.proofs.Soundness.{sound_exactly}
+use Rattle.dpl_rules.specs.Foralls.{all_foralls}
+use Rattle.dpl_lowered.specs.LoweredStatements.{lowered_program}
+use Rattle.dpl_memory.specs.Memory.{Variable, known_variable, in_memory}
+use Rattle.dpl_memory.specs.Resolved.{variable_of, Start, first_memory, first_seen, resolving}
+use Rattle.dpl_standing.specs.Standing.{Outside, AllMayStand}
+use Rattle.dpl_standing.specs.Written.{first_in_body}
+use Rattle.dpl_readings.specs.Readings.{steps_in}
+use Rattle.dpl_readings.specs.Written.{slot_of, written_among}
+use Rattle.dpl_readings.proofs.Standing.{steps_in-of}
+use Rattle.dpl_nodes.specs.Spots.{IsNear}
+use Rattle.dpl_nodes.specs.Roots.{slot_by}
+use Rattle.dpl_nodes.specs.Typed.{range_view, range_item, domain_view}
+use Rattle.dpl_nodes.specs.Steps.{listed, steps_of}
+use Rattle.dpl_nodes.specs.declared.step.Step.{Step}
+use Rattle.dpl_nodes.specs.declared.tree.DomainExpr.{DomainExpr}
+use Rattle.dpl_nodes.specs.declared.tree.RangeExpr.{RangeExpr, Local as RangeLocal, Between', Slice', Dimension'}
+use Rattle.dpl_says.specs.Given.{given}
+use Rattle.dpl_given.specs.Words.{words_in}
+use Rattle.dpl_typer.specs.Sights.{AreKnownScopes}
+use Rattle.dpl_planner.specs.Bounds.{bound_program}
+use Rattle.dpl_planner.specs.Given.{AreGiven}
+use Rattle.dpl_planner.proofs.Spelled.{program-spelled}
+use Rattle.dpl_run.specs.Entered.{entered_all, Pairwise}
+use Rattle.dpl_run.specs.Dealing.{IsDealtAlike, DealsAsMeant}
+use Rattle.dpl_run.specs.Plans.{start_of, IsPlan}
+use Rattle.dpl_run.proofs.Planned.{are-given, planned, sets-fit}
+use Rattle.dpl_run.proofs.Standing.{plan-stands}
+use Rattle.dpl_run.proofs.Meaning.{alike}
+use Rattle.dpl_run.proofs.Runnable.{unbroken, walk-unbroken}
+use Rattle.dpl_run.proofs.TurnsMap.{turns-dealt}
+
+-- ---- a forall as a typed statement: over a range its turns are dealt out as over no name, over a domain by the name that the call is handed
+range-rootless : (r : RangeExpr) → slot_by (derived_from (range_view r)) ≡ None
+range-rootless (RangeLocal slot) = refl
+range-rootless (Between' p low at dots q high stride) = refl
+range-rootless (Slice' p r q cut) = range-rootless r
+range-rootless (Dimension' p d n) = refl
+
+pub range-origin : (r : RangeExpr) → slot_by (derived_item (range_item r)) ≡ None
+range-origin (RangeLocal slot) = refl
+range-origin (Between' p low at dots q high stride) = refl
+range-origin (Slice' p r q cut) = range-rootless r
+range-origin (Dimension' p d n) = refl
+
+pub domain-origin : (d : DomainExpr) → slot_by (derived_item (One (domain_view d))) ≡ slot_by (derived_from (domain_view d))
+domain-origin d = refl
+
+pub body-written : (ts : _) → first_in_body slot_of (listed ts) ≡ written_among ts
+body-written ts = refl
+
+-- ---- a program and its plan
+abbrev start_by : ProgramTree Text → List (List ℕ) → ℕ → Scopes → Start
+start_by t sets slots scopes = record { slots = slots; cells = 0; texts = given t sets; words = words_in scopes sets; histories = None }
+
+pub program-deals : (t : ProgramTree Text) (sets : List (List ℕ)) (limits : Limits) (slots : ℕ) (scopes : Scopes) (steps : List Step) → StmtsSpelt IsNear ⊥ t.stmts → UntaskedStmts t.stmts → stmts_breaches top_sight t.stmts ≡ []
+    → fits_all (resolving (start_by t sets slots scopes)) (bound_program t).stmts first_seen
+    → (lowered_program known_variable (renamed_program variable_of (bound_program t))).stmts ≡ steps_of steps → AllMayStand Outside (steps_of steps) → DealsAsMeant t sets limits slots scopes steps
+program-deals t sets limits slots scopes steps spelt untasked unbroken fit nodes stands layout histories =
+    subst (λ us. Pairwise (IsDealtAlike layout limits (all_foralls top t.stmts)) (entered_all limits by_name t.stmts (first_state (given t sets) histories) no_deeds)
+    (entered_all limits in_memory us (first_memory (start_of slots scopes sets)) no_deeds)) (nodes ∙ sym (steps_in-of Outside steps stands))
+    (turns-dealt layout limits (start_by t sets slots scopes) t.stmts histories spelt untasked unbroken tt fit (ap (λ (p : ProgramTree Text). p.stmts) (program-spelled t)))
+
+-- ---- a program that has no refusal
+pub plan-deals : (t : ProgramTree Text) (sets : List (List ℕ)) (limits : Limits) (slots : ℕ) (scopes : Scopes) (steps : List Step) → StmtsSpelt IsNear ⊥ t.stmts → UntaskedStmts t.stmts → refusal t sets ≡ None
+    → (lowered_program known_variable (renamed_program variable_of (bound_program t))).stmts ≡ steps_of steps
+    → ((start : Start) → slots ≤ start.slots → AreGiven start scopes → fits_all (resolving start) (bound_program t).stmts first_seen)
+    → scopes ≡ behind_all top t.stmts → AreKnownScopes scopes → DealsAsMeant t sets limits slots scopes steps
+plan-deals t sets limits slots scopes steps spelt untasked unrefused nodes fit behind plain =
+    let sound = (sound_exactly t).1 (unbroken (first_breach t) (sets_fit (behind_all top t.stmts) [] sets) unrefused) in
+    let plan : IsPlan t slots scopes steps = planned t slots scopes steps nodes fit behind plain in
+    program-deals t sets limits slots scopes steps spelt untasked (walk-unbroken t sound)
+    (fit (start_by t sets slots scopes) (le_refl slots) (are-given (start_by t sets slots scopes) scopes (alike t sets slots scopes steps plan (sets-fit t sets unrefused)))) nodes
+    (plan-stands t sets steps untasked unrefused nodes)
