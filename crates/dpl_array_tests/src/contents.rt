@@ -1,6 +1,6 @@
-// How many words stand side by side in an array of a running program, which no clause says.
+// How many words stand side by side in an array of a running program, and so by which map it is cut, which no clause says.
 
-use crate::made::index;
+use crate::made::{block, cyclic, in_blocks, index};
 use dpl_array::Row;
 use dpl_contents::{ArrayWords, DomainWord, RangeWord};
 use dpl_map::Map;
@@ -26,4 +26,31 @@ fn rows_of_words(rt: HostRuntime) {
     assert_eq!(rt; array.set_run(row, &[7, 8, 9, 10]), 3);
     assert!(rt; array.run(row) == [7, 8, 9].as_slice());
     assert_eq!(rt; array.get_plane(1, 3), Some(4));
+}
+
+// The squares up to 64 in an array that is dealt anew by one map after another: all are there, and so many stand side by side from the
+// first index on.
+#[test]
+fn dealt_anew(rt: HostRuntime) {
+    let line = DomainWord::new(&[up_to(&rt, 8)]).expect(&rt, "a domain");
+    let made = ArrayWords::new(rt.alloc(), line, Map::whole(), 0);
+    let mut array = made.expect(&rt, "memory");
+    for i in 1..9i64 {
+        assert!(&rt; array.set_line(i, i.wrapping_mul(i)));
+    }
+    let row = Row::new(index(&rt, &[1]), 1);
+    for (map, beside) in [
+        (block(&rt, "1..8", &[4]), 2),
+        (cyclic(&rt, &[1], &[4]), 0),
+        (in_blocks(&rt, &[1], &[3], &[2]), 0),
+        (block(&rt, "1..8", &[2]), 4),
+        (block(&rt, "-1..8", &[2]), 3),
+        (Map::whole(), 8),
+    ] {
+        array = array.dealt(rt.alloc(), &map).expect(&rt, "memory");
+        for i in 1..9i64 {
+            assert_eq!(&rt; array.get_line(i), Some(i.wrapping_mul(i)));
+        }
+        assert_eq!(&rt; array.run(row).len(), beside);
+    }
 }
