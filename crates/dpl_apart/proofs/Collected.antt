@@ -9,10 +9,11 @@ use Rattle.std.proofs.lemmas.Option.{none-some, same_Some}
 use Rattle.dpl_language.specs.Tree.{Op}
 use Rattle.dpl_language.specs.Values.{Index}
 use Rattle.dpl_memory.specs.Memory.{Held, Memory, array_at, held_at, is_among}
+use Rattle.dpl_memory.specs.Pieces.{owned_piece, left_by, rejoined}
 use Rattle.dpl_apart.specs.Operands.{combined_words}
 use Rattle.dpl_apart.specs.Rows.{AreOnce}
 use Rattle.dpl_apart.specs.Memories.{IsPiece, with_words}
-use Rattle.dpl_apart.specs.Workers.{owned_piece, locales_of, HaveWorkers, left_by, rejoined, word_joined}
+use Rattle.dpl_apart.specs.Workers.{locales_of, HaveWorkers, word_joined}
 use Rattle.dpl_apart.proofs.Split.{each-weaker}
 use Rattle.dpl_apart.proofs.Shares.{owned-element}
 use Rattle.dpl_apart.proofs.Rejoined.{none-left, or-true, words-beside}

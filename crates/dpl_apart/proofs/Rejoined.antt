@@ -9,11 +9,12 @@ use Rattle.dpl_language.specs.Tree.{Op}
 use Rattle.dpl_language.specs.Values.{Index}
 use Rattle.dpl_language.specs.Ranges.{same_index}
 use Rattle.dpl_memory.specs.Memory.{Held, Memory, no_array, array_at, held_at, is_among}
+use Rattle.dpl_memory.specs.Pieces.{left_by}
 use Rattle.dpl_apart.specs.Operands.{combined_words, all_combined, unit_words, AreExact}
 use Rattle.dpl_apart.specs.Rows.{part_of, is_owned, gathered, all_joined, AreOnce}
 use Rattle.dpl_apart.specs.Apart.{last_index}
 use Rattle.dpl_apart.specs.Memories.{Changes, Row, IsFormed, held_by_if, with_elements, with_words, words_in, operators_of, with_values, held_in, row_in}
-use Rattle.dpl_apart.specs.Workers.{worker_memory, locales_of, left_by, rejoined_if, rejoined_from, word_joined, words_joined, together}
+use Rattle.dpl_apart.specs.Workers.{worker_memory, locales_of, rejoined_if, rejoined_from, word_joined, words_joined, together}
 use Rattle.dpl_apart.proofs.Indices.{same_index-refl}
 use Rattle.dpl_apart.proofs.ReduceWords.{reduce_words}
 use Rattle.dpl_apart.proofs.Split.{each-weaker}

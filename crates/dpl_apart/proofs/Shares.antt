@@ -10,10 +10,11 @@ use Rattle.dpl_language.specs.Tree.{Op}
 use Rattle.dpl_language.specs.Values.{Index}
 use Rattle.dpl_language.specs.Ranges.{same_index}
 use Rattle.dpl_memory.specs.Memory.{Held, Memory, no_array, array_at, word_at, held_at, is_among}
+use Rattle.dpl_memory.specs.Pieces.{owned_piece, owned_if, shares_from}
 use Rattle.dpl_apart.specs.Operands.{unit_words, AreExact}
 use Rattle.dpl_apart.specs.Rows.{IsDistinct}
 use Rattle.dpl_apart.specs.Memories.{Changes, IsPiece, IsFormed, IsLike, is_kept, with_words, words_in, operators_of, row_in}
-use Rattle.dpl_apart.specs.Workers.{owned_piece, owned_if, shares_from, worker_memory}
+use Rattle.dpl_apart.specs.Workers.{worker_memory}
 use Rattle.dpl_apart.proofs.Indices.{same_index-refl, same_index-sound}
 use Rattle.dpl_apart.proofs.ReduceWords.{reduce_words}
 use Rattle.dpl_apart.proofs.Places.{distinct-rest, distinct-first}

@@ -1,32 +1,16 @@
 -- The memories of workers, each of which makes the turns of the indices that a locale owns: what they begin with, and what they leave together.
-use Rattle.std.specs.Prelude.{◌≡◌, ℕ, ◌+◌, ◌<◌, ◌==◌, ℤ, pos, Bool, true, false, if◌then◌else◌, Option, Some, None, Result, Ok, Err, List, [], ◌∷◌, get_or, map, filter, unwrap_or}
+use Rattle.std.specs.Prelude.{◌≡◌, ℕ, ◌+◌, ◌<◌, ℤ, pos, Bool, true, false, Option, Some, None, Result, Ok, Err, List, [], ◌∷◌, get_or, map}
 use Rattle.std.specs.List.{AllByRecursion}
 use Rattle.dpl_language.specs.Tree.{Op}
 use Rattle.dpl_language.specs.Values.{Index, Fault}
 use Rattle.dpl_language.specs.Outcome.{Deeds, Outcome, Done, Stop}
-use Rattle.dpl_memory.specs.Memory.{Held, Memory, held_at, array_at, is_among}
+use Rattle.dpl_memory.specs.Memory.{Held, Memory, is_among}
+use Rattle.dpl_memory.specs.Pieces.{shares_from, left_by, rejoined}
 use Rattle.dpl_apart.specs.Operands.{combined_words, unit_words}
 use Rattle.dpl_apart.specs.Rows.{AreOnce}
 use Rattle.dpl_apart.specs.Memories.{Changes, with_words, operators_of}
 
 -- WHAT A WORKER BEGINS WITH
--- the piece of an array that a locale owns: the array with the elements at that locale's indices alone
-abbrev pub owned_piece : (Index → ℕ) → ℕ → Held → Held
-owned_piece owns l a = record {
-  ranges = a.ranges;
-  keys = filter (λ t. owns t == l) a.keys;
-  words = map (λ t. unwrap_or (held_at t a) (pos 0)) (filter (λ t. owns t == l) a.keys);
-}
-
-abbrev pub owned_if : Bool → (Index → ℕ) → ℕ → Held → Held
-owned_if true owns l a = owned_piece owns l a
-owned_if false owns l a = a
-
--- of the arrays from a slot on the pieces of those that are written, and the others as they are
-abbrev pub shares_from : ℕ → List ℕ → (Index → ℕ) → ℕ → List Held → List Held
-shares_from first written owns l [] = []
-shares_from first written owns l (a ∷ more) = owned_if (is_among first written) owns l a ∷ shares_from (first + 1) written owns l more
-
 -- a locale's shares of the arrays, and reduce variables to which nothing was added
 abbrev pub worker_memory : Changes → (Index → ℕ) → ℕ → Memory → Memory
 worker_memory h owns l m = record m {
@@ -50,15 +34,6 @@ worker_end (Ok u) done = Done u done
 worker_end (Err f) done = Stop f done
 
 -- WHAT WORKERS LEAVE TOGETHER
--- the memory of a locale's worker; where it has none, a memory as it was
-abbrev pub left_by : ℕ → List (ℕ × Memory) → Memory → Memory
-left_by l [] m = m
-left_by l (w ∷ ws) m = if w.0 == l then w.1 else left_by l ws m
-
--- an array with the elements that their owners' workers have left
-abbrev pub rejoined : (Index → ℕ) → List (ℕ × Memory) → Memory → ℕ → Held → Held
-rejoined owns ws m slot a = record a { words = map (λ t. unwrap_or (held_at t (array_at slot (left_by (owns t) ws m))) (pos 0)) a.keys }
-
 abbrev pub rejoined_if : Bool → (Index → ℕ) → List (ℕ × Memory) → Memory → ℕ → Held → Held
 rejoined_if true owns ws m slot a = rejoined owns ws m slot a
 rejoined_if false owns ws m slot a = a

@@ -12,7 +12,7 @@ use Rattle.dpl_map.specs.Maps.{AxisValue, owner, locales}
 use Rattle.dpl_language.specs.Values.{Index}
 use Rattle.dpl_language.specs.Ranges.{indices_in}
 use Rattle.dpl_memory.specs.Memory.{Held, whole_held, held_at, held_over}
-use Rattle.dpl_apart.specs.Workers.{owned_piece}
+use Rattle.dpl_memory.specs.Pieces.{owned_piece}
 use Rattle.dpl_array.specs.Elements.{Elements, value_at, owned, element_before, tabulated}
 use Rattle.dpl_array.specs.Arrays.{ArrayValue, PieceValue, PiecesValue, IsWhole, counted, in_slot, piece_in, pieces_of, union, with_slot, held_at as has_at}
 use Rattle.dpl_array.specs.Rows.{StandsIn}

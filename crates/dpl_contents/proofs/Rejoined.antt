@@ -6,7 +6,7 @@ use Rattle.dpl_map.specs.Maps.{AxisValue, owner}
 use Rattle.dpl_language.specs.Values.{Index}
 use Rattle.dpl_language.specs.Ranges.{indices_in}
 use Rattle.dpl_memory.specs.Memory.{Held, Memory, held_at, array_at}
-use Rattle.dpl_apart.specs.Workers.{left_by, rejoined}
+use Rattle.dpl_memory.specs.Pieces.{left_by, rejoined}
 use Rattle.dpl_array.specs.Rows.{StandsIn}
 use Rattle.dpl_array.proofs.ElementLemmas.{stands-later}
 use Rattle.dpl_contents.specs.Parted.{Parted, parted, piece_of, with_piece, word_in, whole_of}

@@ -6,7 +6,7 @@ use Rattle.dpl_array.specs.Arrays.{counted}
 use Rattle.dpl_language.specs.Values.{Index}
 use Rattle.dpl_language.specs.Ranges.{indices_in}
 use Rattle.dpl_memory.specs.Memory.{Held, whole_held, held_at}
-use Rattle.dpl_apart.specs.Workers.{owned_piece}
+use Rattle.dpl_memory.specs.Pieces.{owned_piece}
 
 -- its domain, the map by which it is cut, and for each locale the piece that it owns, where that is there
 pub record Parted : Type 0 where

@@ -4,7 +4,6 @@
 use Rattle.std.specs.Prelude.{ℕ, ◌%◌, ◌^◌, nat_lt, if◌then◌else◌, List, [], ◌∷◌, length, sum_by, Option, Some, None}
 use Rattle.dpl_sets.specs.TextDomains.{values_of}
 use Rattle.dpl_sets.specs.declared.subscript.Subscript.{Subscript}
-use Rattle.dpl_syntax.specs.declared.place.Place.{Place}
 use Rattle.dpl_history.specs.declared.history.Event.{Event}
 use Rattle.dpl_map.specs.Maps.{AxisValue, whole_map, locales}
 use Rattle.dpl_array.specs.Arrays.{ArrayValue, filled_array, counted}

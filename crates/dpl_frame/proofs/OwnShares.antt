@@ -4,7 +4,7 @@ use Rattle.std.proofs.Math.ListN.{get_or-eq_default}
 use Rattle.std.proofs.lemmas.List.{set_past}
 use Rattle.dpl_language.specs.Values.{Index}
 use Rattle.dpl_memory.specs.Memory.{Held, no_array, is_among}
-use Rattle.dpl_apart.specs.Workers.{owned_if, shares_from}
+use Rattle.dpl_memory.specs.Pieces.{owned_if, shares_from}
 use Rattle.dpl_frame.specs.declared.share.Share.{Share}
 use Rattle.dpl_frame.specs.declared.share.Share.TheVariants.{Lent}
 use Rattle.dpl_frame.specs.Shares.{share_before, share_in, own_before}

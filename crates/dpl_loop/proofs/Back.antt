@@ -9,9 +9,10 @@ use Rattle.dpl_array.specs.Arrays.{counted}
 use Rattle.dpl_array.proofs.UnionLemmas.{counted-at}
 use Rattle.dpl_language.specs.Values.{Index}
 use Rattle.dpl_memory.specs.Memory.{Held, Memory, no_array, array_at, held_at, is_among, with_array}
+use Rattle.dpl_memory.specs.Pieces.{owned_piece, left_by, rejoined}
 use Rattle.dpl_apart.specs.Rows.{AreOnce}
 use Rattle.dpl_apart.specs.Memories.{Changes, IsPiece, IsFormed}
-use Rattle.dpl_apart.specs.Workers.{owned_piece, locales_of, left_by, rejoined, rejoined_if, rejoined_from}
+use Rattle.dpl_apart.specs.Workers.{locales_of, rejoined_if, rejoined_from}
 use Rattle.dpl_apart.proofs.Shares.{owned-element}
 use Rattle.dpl_apart.proofs.Rejoined.{none-left, or-true}
 use Rattle.dpl_contents.specs.Parted.{Parted, parted, piece_of, with_piece, word_in, whole_of}

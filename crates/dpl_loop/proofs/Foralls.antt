@@ -16,11 +16,12 @@ use Rattle.dpl_language.specs.Environment.{Limits}
 use Rattle.dpl_language.specs.Outcome.{Deeds, no_deeds, Outcome, Done, Stop, Run, in_order}
 use Rattle.dpl_language.specs.Loops.{named_turn}
 use Rattle.dpl_memory.specs.Memory.{Held, Memory}
+use Rattle.dpl_memory.specs.Pieces.{shares_from, left_by}
 use Rattle.dpl_apart.specs.Operands.{combined_words, AreExact}
 use Rattle.dpl_apart.specs.Apart.{last_index}
 use Rattle.dpl_apart.specs.Rows.{AreOnce, part_of, place_in}
 use Rattle.dpl_apart.specs.Memories.{Changes, Row, IsFormed, held_in, MayBeApart, words_in, operators_of}
-use Rattle.dpl_apart.specs.Workers.{worker_memory, shares_from, locales_of, HaveWorkers, worker_end, left_by, word_joined, words_joined, rejoined_from, together}
+use Rattle.dpl_apart.specs.Workers.{worker_memory, locales_of, HaveWorkers, worker_end, word_joined, words_joined, rejoined_from, together}
 use Rattle.dpl_apart.proofs.Foralls.{named-may}
 use Rattle.dpl_apart.proofs.Memories.{element-length}
 use Rattle.dpl_apart.proofs.Places.{indices-of-rank}

@@ -7,8 +7,9 @@ use Rattle.dpl_map.specs.Parts.{part}
 use Rattle.dpl_language.specs.Tree.{Op}
 use Rattle.dpl_language.specs.Values.{Index}
 use Rattle.dpl_memory.specs.Memory.{Held, Memory, no_array, is_among}
+use Rattle.dpl_memory.specs.Pieces.{owned_if, shares_from}
 use Rattle.dpl_apart.specs.Memories.{Changes}
-use Rattle.dpl_apart.specs.Workers.{owned_if, shares_from, worker_memory, HaveWorkers}
+use Rattle.dpl_apart.specs.Workers.{worker_memory, HaveWorkers}
 use Rattle.dpl_apart.proofs.Collected.{workers-skip, workers-next}
 use Rattle.dpl_frame.specs.Frames.{Framed, with_memory}
 use Rattle.dpl_frame.specs.declared.share.Share.{Share}

@@ -6,8 +6,8 @@ use Rattle.std.proofs.lemmas.List.{length-set, get_or-set_other}
 use Rattle.dpl_map.specs.Maps.{AxisValue, owner, locales}
 use Rattle.dpl_array.specs.Arrays.{counted}
 use Rattle.dpl_memory.specs.Memory.{Held, Memory, no_array, array_at, with_array, is_among}
+use Rattle.dpl_memory.specs.Pieces.{owned_piece}
 use Rattle.dpl_contents.specs.Parted.{Parted, parted, piece_of, with_piece}
-use Rattle.dpl_apart.specs.Workers.{owned_piece}
 use Rattle.dpl_apart.specs.Rows.{AreOnce}
 use Rattle.dpl_frame.specs.declared.share.Share.TheVariants.{Lent, Piece}
 use Rattle.dpl_loop.specs.declared.taken.Taken.{Taken}

@@ -32,3 +32,7 @@ pub record AreDone (turn : Index → Run Memory) (row : Row) (size : ℕ) (befor
 abbrev pub TurnsGoOn : Type 0 → (Index → Run Memory) → List Index → ℕ → Memory → Result ℕ RunStop → Memory → Deeds → Type 0
 TurnsGoOn may turn ts place before (Ok next) after done = in_order turn (drop next ts) after done ≡ in_order turn (drop place ts) before done
 TurnsGoOn may turn ts place before (Err h) after done = RunsTo may (Err h) after done (in_order turn (drop place ts) before done)
+
+-- all that was done, this text being what was printed
+abbrev pub having_printed : List ℕ → Deeds → Deeds
+having_printed text done = record done { text = text }

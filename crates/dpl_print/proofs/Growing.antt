@@ -15,8 +15,7 @@ use Rattle.dpl_nodes.specs.Steps.{written_as}
 use Rattle.dpl_frame.specs.Faults.{fault_view}
 use Rattle.dpl_loop.specs.declared.stop.RunStop.{RunStop}
 use Rattle.dpl_loop.specs.declared.stop.RunStop.TheVariants as stop
-use Rattle.dpl_loop.specs.Runs.{RunsTo}
-use Rattle.dpl_print.specs.Texts.{having_printed}
+use Rattle.dpl_loop.specs.Runs.{RunsTo, having_printed}
 use Rattle.dpl_print.specs.Texts.{argument_text, arguments_text, behind, Grew, GrewBy}
 use Rattle.dpl_values.specs.Arguments.{EachInArgument, EachInArguments}
 use Rattle.dpl_print.proofs.Writing.{behind-append, exec-written}

@@ -2,7 +2,7 @@
 -- A fault leaves what was printed before at the front.
 use Rattle.std.specs.Prelude.{◌≡◌, ℕ, List, [], ◌∷◌, ◌++◌, map, None, Result, Ok, Err, unwrap_or, pos}
 use Rattle.dpl_language.specs.Values.{Fault, Int}
-use Rattle.dpl_language.specs.Outcome.{Deeds, with_ok}
+use Rattle.dpl_language.specs.Outcome.{with_ok}
 use Rattle.dpl_language.specs.Environment.{Limits}
 use Rattle.dpl_language.specs.Phrases.{bare_name}
 use Rattle.dpl_language.specs.Expressions.{value_of}
@@ -51,7 +51,3 @@ GrewBy may (Err (stop.Fault f)) old new more = (more ≡ Err (fault_view f)) × 
 GrewBy may (Err stop.Memory) old new more = Unit {0}
 GrewBy may (Err stop.Thread) old new more = Unit {0}
 GrewBy may (Err stop.Gate) old new more = may
-
--- all that was done, this text being what was printed
-abbrev pub having_printed : List ℕ → Deeds → Deeds
-having_printed text done = record done { text = text }

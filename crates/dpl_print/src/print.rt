@@ -8,10 +8,9 @@ ghost use Rattle.dpl_language.specs.Writing.{line_end};
 ghost use Rattle.dpl_language.specs.Statements.{exec};
 ghost use Rattle.dpl_memory.specs.Memory.{in_memory};
 ghost use Rattle.dpl_nodes.specs.Steps.{written_as};
-ghost use Rattle.dpl_loop.specs.Runs.{RunsTo};
+ghost use Rattle.dpl_loop.specs.Runs.{RunsTo, having_printed};
 ghost use Rattle.dpl_values.specs.Reductions.{MayRefuseReduction};
 ghost use Rattle.dpl_values.specs.Arguments.{EachInArgument, EachInArguments};
-ghost use Rattle.dpl_print.specs.Texts.{having_printed};
 ghost use Rattle.dpl_print.specs.Texts.{argument_text, arguments_text, GrewBy};
 
 use crate::array_text::show_array;

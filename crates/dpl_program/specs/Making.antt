@@ -15,7 +15,7 @@ use Rattle.dpl_loop.specs.declared.stop.RunStop.{RunStop}
 use Rattle.dpl_loop.specs.Runs.{RunsTo}
 use Rattle.dpl_loop.specs.Entries.{MayRefuse}
 use Rattle.dpl_readings.specs.Readings.{steps_in}
-use Rattle.dpl_steps.specs.Dealt.{dealt_by}
+use Rattle.dpl_frame.specs.Dealt.{dealt_by}
 use Rattle.dpl_readings.specs.Written.{written_among}
 use Rattle.dpl_elements.specs.declared.whole.WholeTurns.{WholeTurns}
 use Rattle.dpl_elements.specs.Wholes.{whole_turn}

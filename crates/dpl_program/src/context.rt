@@ -12,14 +12,13 @@ ghost use Rattle.dpl_standing.specs.Standing.{Outside, InTurn};
 ghost use Rattle.dpl_nodes.specs.Steps.{intent_view};
 ghost use Rattle.dpl_nodes.specs.declared.step.Names.TheVariants.{Int as IntName};
 ghost use Rattle.dpl_contents.specs.Range.{range_word};
-ghost use Rattle.dpl_loop.specs.Runs.{RunsTo};
+ghost use Rattle.dpl_loop.specs.Runs.{RunsTo, having_printed};
 ghost use Rattle.dpl_loop.specs.Entries.{MayRefuse, MayRefuseSome};
 ghost use Rattle.dpl_readings.specs.Readings.{steps_in};
 ghost use Rattle.dpl_values.specs.Teams.{TellsInts, TellsTruths};
-ghost use Rattle.dpl_steps.specs.Dealt.{dealt_by};
+ghost use Rattle.dpl_frame.specs.Dealt.{dealt_by};
 ghost use Rattle.dpl_readings.specs.Written.{written_among};
 ghost use Rattle.dpl_elements.specs.Turns.{index_turn, intended_turns};
-ghost use Rattle.dpl_print.specs.Texts.{having_printed};
 ghost use Rattle.dpl_program.specs.Making.{HasMade, HasMadeWhole};
 
 use crate::body::Body;

@@ -3,7 +3,7 @@
 ghost use Rattle.std.specs.Prelude.{◌≡◌};
 ghost use Rattle.dpl_standing.specs.Standing.{InTurn};
 ghost use Rattle.dpl_readings.specs.Readings.{steps_in};
-ghost use Rattle.dpl_steps.specs.Dealt.{slot_map, dealt_by};
+ghost use Rattle.dpl_frame.specs.Dealt.{slot_map, dealt_by};
 ghost use Rattle.dpl_readings.specs.Written.{written_among};
 
 use crate::written::written;

@@ -18,11 +18,10 @@ use Rattle.dpl_rules.specs.Sound.{behind_all, sets_fit, refusal}
 use Rattle.dpl_rules.proofs.Soundness.{sound_exactly}
 use Rattle.dpl_rules.specs.Foralls.{all_foralls}
 use Rattle.dpl_lowered.specs.LoweredStatements.{lowered_program}
-use Rattle.dpl_memory.specs.Memory.{Variable, known_variable, in_memory}
+use Rattle.dpl_memory.specs.Memory.{known_variable, in_memory}
 use Rattle.dpl_memory.specs.Resolved.{variable_of, Start, first_memory, first_seen, resolving}
 use Rattle.dpl_standing.specs.Standing.{Outside, AllMayStand}
 use Rattle.dpl_standing.specs.Written.{first_in_body}
-use Rattle.dpl_readings.specs.Readings.{steps_in}
 use Rattle.dpl_readings.specs.Written.{slot_of, written_among}
 use Rattle.dpl_readings.proofs.Standing.{steps_in-of}
 use Rattle.dpl_nodes.specs.Spots.{IsNear}

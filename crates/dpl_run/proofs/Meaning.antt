@@ -39,7 +39,7 @@ use Rattle.dpl_typer.proofs.OperatorKinds.{kind_if-some}
 use Rattle.dpl_runnable.proofs.Expressions.{variable-cases}
 use Rattle.dpl_typer.specs.Sights.{sight_of, AreKnownScopes}
 use Rattle.dpl_run.specs.Plans.{IsPlan, IsGivenAlike}
-use Rattle.dpl_print.specs.Texts.{having_printed}
+use Rattle.dpl_loop.specs.Runs.{having_printed}
 use Rattle.dpl_run.specs.declared.outcome.Outcome.{Outcome}
 use Rattle.dpl_run.specs.declared.outcome.Outcome.TheVariants.{Done as DoneWith, Stopped, Rejected}
 use Rattle.dpl_run.specs.Headline.{ending}

@@ -54,7 +54,7 @@ use Rattle.dpl_standing.specs.Written.{first_in_body}
 use Rattle.dpl_standing.proofs.Reading.{first_name}
 use Rattle.dpl_readings.specs.Written.{slot_of}
 use Rattle.dpl_nodes.specs.Roots.{slot_by, slot_of as kind_slot}
-use Rattle.dpl_steps.specs.Dealt.{slot_map, dealt_by}
+use Rattle.dpl_frame.specs.Dealt.{slot_map, dealt_by}
 use Rattle.dpl_exchange.specs.Counts.{turns_map}
 use Rattle.dpl_typer.specs.Shapes.{shape_in}
 use Rattle.dpl_typer.specs.Sights.{bound_in}

@@ -24,7 +24,7 @@ use Rattle.dpl_readings.specs.Written.{slot_of}
 use Rattle.dpl_nodes.specs.declared.step.Step.{Step}
 use Rattle.dpl_nodes.specs.Roots.{slot_by}
 use Rattle.dpl_says.specs.Given.{given}
-use Rattle.dpl_steps.specs.Dealt.{dealt_by}
+use Rattle.dpl_frame.specs.Dealt.{dealt_by}
 use Rattle.dpl_exchange.specs.Counts.{turns_map}
 use Rattle.dpl_run.specs.Entered.{Entry, entered_all, Pairwise}
 use Rattle.dpl_run.specs.Plans.{start_of}

@@ -9,7 +9,7 @@ use Rattle.dpl_rules.specs.Sights.{Scopes}
 use Rattle.dpl_memory.specs.Memory.{Memory}
 use Rattle.dpl_memory.specs.Resolved.{frame_in}
 use Rattle.dpl_frame.specs.Faults.{fault_view}
-use Rattle.dpl_print.specs.Texts.{having_printed}
+use Rattle.dpl_loop.specs.Runs.{having_printed}
 use Rattle.dpl_run.specs.declared.outcome.Outcome.{Outcome}
 use Rattle.dpl_run.specs.declared.outcome.Outcome.TheVariants.{Done, Stopped, Rejected}
 use Rattle.dpl_run.specs.Leaving.{sighted_in}

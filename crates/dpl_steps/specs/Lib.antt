@@ -2,8 +2,6 @@
 pub mod Runs
 -- Which root a declared domain or array gets.
 pub mod Lineages
--- By which map the turns of a forall are dealt out.
-pub mod Dealt
 -- Which entries a gate may refuse of one statement.
 pub mod Refusals
 -- Ints that are folded onto a word, in turns that are made at once.

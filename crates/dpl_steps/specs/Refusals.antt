@@ -25,7 +25,7 @@ use Rattle.dpl_frame.specs.Frames.{Framed}
 use Rattle.dpl_frame.specs.Roots.{map_of_root}
 use Rattle.dpl_loop.specs.Entries.{MayRefuse}
 use Rattle.dpl_values.specs.Reductions.{EachInRange, EachInRanges, EachInDomain, EachInInts, EachInTruths, MayRefuseReduction}
-use Rattle.dpl_steps.specs.Dealt.{dealt_by}
+use Rattle.dpl_frame.specs.Dealt.{dealt_by}
 use Rattle.dpl_readings.specs.Written.{written_among}
 use Rattle.dpl_steps.specs.Lineages.{slot_root}
 use Rattle.dpl_elements.specs.Turns.{looped_over}

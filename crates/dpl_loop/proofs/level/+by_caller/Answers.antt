@@ -1,5 +1,4 @@
 -- The last job is done behind those before it.
-use Rattle.std.proofs.Common.{◌≡◌}
 use Rattle.dpl_sets.specs.Indices.{indices}
 use Rattle.dpl_language.specs.Loops.{named_turn}
 use Rattle.dpl_loop.specs.Values.{MayRefuseAmong}

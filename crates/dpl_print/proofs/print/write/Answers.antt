@@ -1,7 +1,7 @@
 -- All texts, and then the line's end; or what was printed before, alone.
 use Rattle.std.proofs.Common.{rules, ◌≡◌, length, take, sym, ap, ◌∙◌}
 use Rattle.dpl_language.specs.Outcome.{Done}
-use Rattle.dpl_print.specs.Texts.{having_printed}
+use Rattle.dpl_loop.specs.Runs.{having_printed}
 use Rattle.dpl_print.proofs.Growing.{written-ends, written-halts}
 use Rattle.dpl_print.proofs.print.write.Goals as goal
 

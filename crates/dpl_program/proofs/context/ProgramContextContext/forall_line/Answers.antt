@@ -11,7 +11,7 @@ use Rattle.dpl_loop.specs.Entries.{MayRefuse}
 use Rattle.dpl_readings.specs.Readings.{steps_in}
 use Rattle.dpl_elements.specs.Turns.{index_turn, intended_turns}
 use Rattle.dpl_elements.proofs.Dealing.{ends-wider}
-use Rattle.dpl_steps.specs.Dealt.{dealt_by}
+use Rattle.dpl_frame.specs.Dealt.{dealt_by}
 use Rattle.dpl_readings.specs.Written.{written_among}
 use Rattle.dpl_steps.proofs.Looping.{forall-range}
 use Rattle.dpl_program.proofs.context.ProgramContextContext.forall_line.Goals as goal
