@@ -1,6 +1,6 @@
--- Values put side by side: into a row, a piece, the pieces of an array and their union.
+-- Values put at the places of a row's indices: into a row, a piece, the pieces of an array and their union.
 -- Each lemma is by the count of the values that are put.
-use Rattle.std.proofs.Common.{◌≡◌, ◌<◌, ◌≤◌, ◌+◌, ℕ, zero, suc, ℤ, List, [], ◌∷◌, length, map, slice_get, slice_set, slice_index_or, Option, Some, None, is_some, true, refl, ap, sym, subst, ◌∙◌, arith, length-set, get_or-set_same}
+use Rattle.std.proofs.Common.{◌≡◌, ◌<◌, ◌≤◌, ℕ, zero, suc, ℤ, List, [], ◌∷◌, length, map, slice_get, slice_set, slice_index_or, Option, Some, None, is_some, true, refl, ap, sym, subst, ◌∙◌, arith, length-set, get_or-set_same}
 use Rattle.std.proofs.lemmas.List.{set-set}
 use Rattle.std.proofs.lemmas.Option.{same_Some, slice_get_within}
 use Rattle.dpl_sets.specs.Ranges.{RangeValue}
@@ -10,11 +10,11 @@ use Rattle.dpl_array.specs.Elements.{Row, behind, put_in_row, put_some, tabulate
 use Rattle.dpl_array.specs.Arrays.{PieceValue, PiecesValue, ArePieces, IsWhole, array_with, piece_with, union, written_at}
 use Rattle.dpl_array.specs.PieceFields.{kept_at, IsKept}
 use Rattle.dpl_array.specs.PiecesFields.{slot_of, AreHeld, IsPieceOf}
-use Rattle.dpl_array.specs.Rows.{row_of, set_side_by_side, set_some}
+use Rattle.dpl_array.specs.Rows.{row_of, set_each, set_some}
 use Rattle.dpl_array.proofs.ElementLemmas.{over-some, over-stands, over-with_value}
 use Rattle.dpl_array.proofs.HeldLemmas.{held-set, held-unwritten, held-written, in-place}
 use Rattle.dpl_array.proofs.PieceLemmas.{piece-set, places-alone}
-use Rattle.dpl_array.proofs.RunLemmas.{RunsFrom}
+use Rattle.dpl_array.proofs.RunLemmas.{StandAt}
 use Rattle.dpl_array.proofs.UnionLemmas.{some-of, written-formed, written-union, written-whole}
 use Rattle.dpl_array.proofs.WindowLemmas.{value-found, within-found}
 
@@ -23,9 +23,9 @@ length-set_some : {X : Type 0} (place : ℕ) (o : Option X) (xs : List X) → le
 length-set_some place None xs = refl
 length-set_some place (Some x) xs = length-set xs place x
 
-pub length-side_by_side : {X : Type 0} (place : ℕ) (ys : List X) (n : ℕ) (xs : List X) → length (set_side_by_side place ys n xs) ≡ length xs
-length-side_by_side place ys zero xs = refl
-length-side_by_side place ys (suc k) xs = length-set_some (place + k) (slice_get ys k) (set_side_by_side place ys k xs) ∙ length-side_by_side place ys k xs
+pub length-set_each : {X : Type 0} (place : ℕ → ℕ) (ys : List X) (n : ℕ) (xs : List X) → length (set_each place ys n xs) ≡ length xs
+length-set_each place ys zero xs = refl
+length-set_each place ys (suc k) xs = length-set_some (place k) (slice_get ys k) (set_each place ys k xs) ∙ length-set_each place ys k xs
 
 pub some-within : {X : Type 0} (xs : List X) (k : ℕ) → k < length xs → is_some (slice_get xs k) ≡ true
 some-within [] k within = absurd (omega (arith, within))
@@ -42,27 +42,27 @@ module _ {T : Type 0} (domain : List RangeValue) (axes : List AxisValue) (locale
   kept-over : (vs : List T) → length vs ≡ length values → IsKept domain axes locale parts starts (length vs)
   kept-over vs long = subst (IsKept domain axes locale parts starts) (sym long) kept
 
-  module _ (place size : ℕ) (t : Row) (runs : RunsFrom (row_of parts) place size t) where
+  module _ (place : ℕ → ℕ) (size : ℕ) (t : Row) (runs : StandAt (row_of parts) place size t) where
     -- there is a value at each index behind
     pub run-there : (k : ℕ) → k < size → is_some (value_at (behind k t) (piece_over values).elements) ≡ true
     run-there k below =
         let at = runs k below in
-        ap is_some (value-found domain axes locale parts starts values kept (place + k) (behind k t) at)
-        ∙ some-within values (place + k) (within-found domain axes locale parts starts values kept (place + k) (behind k t) at)
+        ap is_some (value-found domain axes locale parts starts values kept (place k) (behind k t) at)
+        ∙ some-within values (place k) (within-found domain axes locale parts starts values kept (place k) (behind k t) at)
 
-    pub run-within : (k : ℕ) → k < size → place + k < length values
-    run-within k below = within-found domain axes locale parts starts values kept (place + k) (behind k t) (runs k below)
+    pub run-within : (k : ℕ) → k < size → place k < length values
+    run-within k below = within-found domain axes locale parts starts values kept (place k) (behind k t) (runs k below)
 
-    put-one : (k : ℕ) → k < size → (o : Option T) (vs : List T) → length vs ≡ length values → piece_over (set_some (place + k) o vs) ≡ put_some piece_with (behind k t) o (piece_over vs)
+    put-one : (k : ℕ) → k < size → (o : Option T) (vs : List T) → length vs ≡ length values → piece_over (set_some (place k) o vs) ≡ put_some piece_with (behind k t) o (piece_over vs)
     put-one k below None vs long = refl
     put-one k below (Some v) vs long =
         ap (λ es. record { domain = domain; map = axes; locale = locale; elements = es })
-        (piece-set domain axes locale parts starts vs (kept-over vs long) parts refl (behind k t) (place + k) (places-alone parts (behind k t) (place + k) kept.distinct (runs k below)) v)
+        (piece-set domain axes locale parts starts vs (kept-over vs long) parts refl (behind k t) (place k) (places-alone parts (behind k t) (place k) kept.distinct (runs k below)) v)
 
-    pub put-piece : (new : List T) (n : ℕ) → n ≤ size → piece_over (set_side_by_side place new n values) ≡ put_in_row piece_with t new n (piece_over values)
+    pub put-piece : (new : List T) (n : ℕ) → n ≤ size → piece_over (set_each place new n values) ≡ put_in_row piece_with t new n (piece_over values)
     put-piece new zero most = refl
     put-piece new (suc k) most =
-        put-one k (omega (arith, most)) (slice_get new k) (set_side_by_side place new k values) (length-side_by_side place new k values)
+        put-one k (omega (arith, most)) (slice_get new k) (set_each place new k values) (length-set_each place new k values)
         ∙ ap (put_some piece_with (behind k t) (slice_get new k)) (put-piece new k (omega (arith, most)))
 
 -- INTO THE PIECE OF A LOCALE

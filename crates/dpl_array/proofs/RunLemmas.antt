@@ -7,7 +7,7 @@ use Rattle.dpl_map.specs.Maps.{AxisValue}
 use Rattle.dpl_map.specs.Parts.{part}
 use Rattle.dpl_array.specs.Elements.{Row, behind, tabulated, IsRunOf}
 use Rattle.dpl_array.specs.PieceFields.{kept_at, IsKept}
-use Rattle.dpl_array.specs.Rows.{row_of}
+use Rattle.dpl_array.specs.Rows.{row_of, side_by_side}
 use Rattle.dpl_array.proofs.WindowLemmas.{value-found}
 
 module _ {T : Type 0} where
@@ -29,11 +29,11 @@ module _ {T : Type 0} where
       let cut = taken-some (drop place xs) (end - place) k v some in
       (cut.0, sym (dropped xs place k) ∙ cut.1)
 
--- so many places from one on have the indices of a row
-abbrev pub RunsFrom : List (List ℤ) → ℕ → ℕ → Row → Type 0
-RunsFrom row place size t = (k : ℕ) → k < size → slice_get row (place + k) ≡ Some (behind k t)
+-- the first indices of a row, so many, stand each at its place
+abbrev pub StandAt : List (List ℤ) → (ℕ → ℕ) → ℕ → Row → Type 0
+StandAt row place size t = (k : ℕ) → k < size → slice_get row (place k) ≡ Some (behind k t)
 
-module _ {T : Type 0} (domain : List RangeValue) (axes : List AxisValue) (locale : ℕ) (parts : List (List RangeValue)) (starts : List ℕ) (values : List T) (kept : IsKept domain axes locale parts starts (length values)) (place size : ℕ) (t : Row) (runs : RunsFrom (row_of parts) place size t) where
+module _ {T : Type 0} (domain : List RangeValue) (axes : List AxisValue) (locale : ℕ) (parts : List (List RangeValue)) (starts : List ℕ) (values : List T) (kept : IsKept domain axes locale parts starts (length values)) (place size : ℕ) (t : Row) (runs : StandAt (row_of parts) (side_by_side place) size t) where
   -- the values there are those of the row's indices
   pub run-values : (end : ℕ) → end ≤ place + size → IsRunOf (tabulated (part domain axes locale) (kept_at parts values)) t (slice_range values place end)
   run-values end most k v some =

@@ -1,6 +1,6 @@
 -- A part's indices in one row: those of its first domain, then those of its second, and so on.
 -- Contracts of private functions and the invariant of a piece speak of this row.
-use Rattle.std.specs.Prelude.{◌≡◌, ◌≢◌, ◌<◌, ◌+◌, ℕ, zero, suc, ℤ, List, [], All, length, slice_get, slice_set, slice_index_or, Option, Some, None, take}
+use Rattle.std.specs.Prelude.{◌≡◌, ◌≢◌, ◌<◌, ◌+◌, ◌*◌, ℕ, zero, suc, ℤ, List, [], All, length, slice_get, slice_set, slice_index_or, Option, Some, None, take}
 use Rattle.std.specs.List.{flat_map, sum_by}
 use Rattle.dpl_sets.specs.Ranges.{RangeValue}
 use Rattle.dpl_sets.specs.Indices.{indices}
@@ -27,10 +27,17 @@ abbrev pub set_some : {X : Type 0} → ℕ → Option X → List X → List X
 set_some place None xs = xs
 set_some place (Some x) xs = slice_set xs place x
 
--- a list with the first elements of another one, so many of them, side by side from a place on
-abbrev pub set_side_by_side : {X : Type 0} → ℕ → List X → ℕ → List X → List X
-set_side_by_side place ys zero xs = xs
-set_side_by_side place ys (suc k) xs = set_some (place + k) (slice_get ys k) (set_side_by_side place ys k xs)
+-- a list with the first elements of another one, so many of them, each at its place
+abbrev pub set_each : {X : Type 0} → (ℕ → ℕ) → List X → ℕ → List X → List X
+set_each place ys zero xs = xs
+set_each place ys (suc k) xs = set_some (place k) (slice_get ys k) (set_each place ys k xs)
+
+-- places side by side from one on; and as far apart as this
+abbrev pub side_by_side : ℕ → ℕ → ℕ
+side_by_side place k = place + k
+
+abbrev pub apart_by : ℕ → ℕ → ℕ → ℕ
+apart_by pace place k = place + k * pace
 
 -- no element stands at two places
 abbrev pub IsDistinct : {X : Type 0} → List X → Type 0

@@ -151,8 +151,8 @@ impl<T: Copy> DArray<T> {
         self.set_at(&index, value)
     }
 
-    /// Puts the first of some values at the indices of a row, as many as stand side by side in a piece, and answers how many were put: at
-    /// most those up to the end of the piece's row, where its part is one domain whose last dimension has the row's step as its stride. Of
+    /// Puts the first of some values at the indices of a row, as many as stand in one row of a piece, and answers how many were put: at most
+    /// those up to the end of the piece's row, where its part is one domain and the row's step is some strides of its last dimension. Of
     /// another part or row there may be none, though the array has the index.
     #[inline(always)]
     pub fn set_run(&mut self, row: Row, values: &[T]) -> usize

@@ -6,7 +6,8 @@
 // it: where the piece doesn't hold the index its owner is computed. Where a part is one domain of stride 1 the piece keeps its spans
 // (spans.rt), and a place on a line or a plane is one test for each dimension and a multiplication; a reader keeps the piece of the last
 // read as plain numbers (window.rt). Else the part's domains are asked. A row (row.rt) has indices that follow one another, whatever their
-// stride is: where a piece's part is one domain with that stride, their values stand side by side, and are lent and put so.
+// stride is: where a piece's part is one domain with that stride, their values stand side by side, and are lent and put so; where they stand
+// some strides apart, they are put so too.
 #![tactic(auto)]
 
 mod array;

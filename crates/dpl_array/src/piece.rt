@@ -6,10 +6,10 @@ ghost use Rattle.dpl_sets.specs.Indices.{indices};
 ghost use Rattle.dpl_map.specs.Parts.{part};
 ghost use Rattle.dpl_array.specs.Elements.{value_at, behind, filled, keys_of, put_in_row, IsRunOf};
 ghost use Rattle.dpl_array.specs.Arrays.{IsPiece, piece_with};
-ghost use Rattle.dpl_array.specs.Rows.{set_side_by_side};
+ghost use Rattle.dpl_array.specs.Rows.{apart_by, set_each, side_by_side};
 
 use crate::coordinates::Coordinates;
-use crate::place::{each_once, place_in, run_in, starts_of};
+use crate::place::{each_once, place_in, run_apart, run_in, starts_of};
 use crate::row::Row;
 use crate::spans::Spans;
 use dpl_domain::{Domain, Index};
@@ -197,9 +197,9 @@ impl<T: Copy> Piece<T> {
         self.set(index, value)
     }
 
-    /// Puts the first of some values at the indices of a row, as many as stand side by side, and answers how many were put: at most those up
-    /// to the end of the row, where the piece's part is one domain whose last dimension has the row's step as its stride. Of another part or
-    /// row there may be none, though the piece has the index.
+    /// Puts the first of some values at the indices of a row, as many as stand in one row of the piece, and answers how many were put: at
+    /// most those up to the end of that row, where the piece's part is one domain and the row's step is some strides of its last dimension.
+    /// Of another part or row there may be none, though the piece has the index.
     #[inline(always)]
     pub fn set_run(&mut self, row: Row, values: &[T]) -> usize
         ensures most { result ≤ length values.now }
@@ -207,8 +207,24 @@ impl<T: Copy> Piece<T> {
         ensures changes { self.new ≡ put_in_row piece_with row values.now result self.old }
     {
         let (place, size) = run_in(&self.parts, row);
+        if size == 0 {
+            return self.set_run_apart(row, values);
+        }
         let size = size.min(values.len());
         set_side_by_side(&mut self.values, place, values, size);
+        size
+    }
+
+    // The same where the row's step is several strides of the part's last dimension, so that other elements stand between.
+    #[inline(never)]
+    fn set_run_apart(&mut self, row: Row, values: &[T]) -> usize
+        ensures most { result ≤ length values.now }
+        ensures there { (k : ℕ) → k < result → is_some (value_at (behind k row) self.old.elements) ≡ true }
+        ensures changes { self.new ≡ put_in_row piece_with row values.now result self.old }
+    {
+        let (place, pace, size) = run_apart(&self.parts, row);
+        let size = size.min(values.len());
+        set_apart(&mut self.values, place, pace, values, size);
         size
     }
 
@@ -245,10 +261,22 @@ impl<T: Copy> Piece<T> {
 fn set_side_by_side<T: Copy>(row: &mut [T], place: usize, values: &[T], size: usize)
     requires within { (k : ℕ) → k < size → place + k < length row.old }
     requires most { size ≤ length values.now }
-    ensures { row.new ≡ set_side_by_side place values.now size row.old }
+    ensures { row.new ≡ set_each (side_by_side place) values.now size row.old }
 {
     for k in 0..size {
         row[place + k] = values[k];
+    }
+}
+
+// Writes them into a row from a place on, each so many places behind the one before it.
+#[inline(always)]
+fn set_apart<T: Copy>(row: &mut [T], place: usize, pace: usize, values: &[T], size: usize)
+    requires within { (k : ℕ) → k < size → apart_by pace place k < length row.old }
+    requires most { size ≤ length values.now }
+    ensures { row.new ≡ set_each (apart_by pace place) values.now size row.old }
+{
+    for k in 0..size {
+        row[place + k * pace] = values[k];
     }
 }
 

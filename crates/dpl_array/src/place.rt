@@ -1,11 +1,11 @@
 // Where an index stands in the row of a part's domains.
 // The row has the indices of the first domain, then those of the second, and so on; each domain has its start.
 
-ghost use Rattle.std.specs.Prelude.{◌≡◌, ◌≤◌, ◌<◌, ◌+◌, ◌^◌, ◌↔◌, ℕ, Some, IfOk, IfSome, slice_get, length};
+ghost use Rattle.std.specs.Prelude.{◌≡◌, ◌≤◌, ◌<◌, ◌+◌, ◌^◌, ◌↔◌, ◌*ℤ◌, ℕ, pos, Some, IfOk, IfSome, slice_get, length};
 ghost use Rattle.dpl_map.specs.Orders.{ArePart};
 ghost use Rattle.dpl_sets.specs.Indices.{indices};
 ghost use Rattle.dpl_array.specs.Elements.{behind};
-ghost use Rattle.dpl_array.specs.Rows.{row_of, AreStarts, IsDistinct};
+ghost use Rattle.dpl_array.specs.Rows.{apart_by, row_of, AreStarts, IsDistinct};
 
 use crate::row::Row;
 use dpl_domain::{Domain, Index};
@@ -62,6 +62,44 @@ pub(crate) fn run_in(parts: &[Domain], row: Row) -> (usize, usize)
         return (0, 0);
     }
     (place as usize, left as usize)
+}
+
+// How often a stride goes into a step of its own direction, if it does so a whole number of times.
+fn times(step: i64, stride: i64) -> Option<u64>
+    ensures { IfSome result (λ n. (0 < n) × (stride *ℤ pos n ≡ step)) }
+{
+    let Some(n) = step.checked_div(stride) else {
+        return None;
+    };
+    if n < 1 {
+        return None;
+    }
+    match stride.checked_mul(n) {
+        Some(product) if product == step => Some(n as u64),
+        _ => None,
+    }
+}
+
+/// The same of a row whose step is some strides of the part's last dimension: the place of its first index, how far apart the places of its
+/// indices lie, and at how many of them they stand.
+pub(crate) fn run_apart(parts: &[Domain], row: Row) -> (usize, usize, usize)
+    ensures { (k : ℕ) → k < result.2 → slice_get (row_of parts.now) (apart_by result.1 result.0 k) ≡ Some (behind k row) }
+{
+    let [part] = parts else {
+        return (0, 0, 0);
+    };
+    let Some(place) = part.place(row.first()) else {
+        return (0, 0, 0);
+    };
+    let (own, left) = Row::of(part, row.first(), place);
+    let Some(pace) = times(row.step(), own.step()) else {
+        return (0, 0, 0);
+    };
+    if left == 0 {
+        return (0, 0, 0);
+    }
+    let size = (left - 1) / pace + 1;
+    (place as usize, pace as usize, size as usize)
 }
 
 /// Where the indices of each domain begin in the row of a part's domains, and how long the row is.

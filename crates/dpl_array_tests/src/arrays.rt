@@ -251,7 +251,7 @@ fn rows_put(rt: &impl Abort, alloc: Global, text: &str, map: Map, from: Row, pla
     }
 }
 
-// On a line they are put up to the end of the part, where that has the row's step as its stride, and else none is.
+// On a line they are put up to the end of the part, where the row's step is some of its strides, and else none is.
 #[test]
 fn rows_put_on_a_line(rt: HostRuntime) {
     let [whole, blocks, around, in_threes] = maps(&rt, "1..40", 4);
@@ -303,6 +303,33 @@ fn rows_put_on_a_line(rt: HostRuntime) {
         row(&rt, index(&rt, &[10]), -3),
         4,
     );
+}
+
+// Where the row's step is several strides of the part, the squares between stay. Backwards is another way.
+#[test]
+fn rows_put_apart(rt: HostRuntime) {
+    let [whole, blocks, around, in_threes] = maps(&rt, "1..40", 4);
+    for (text, map, first, step, there) in [
+        ("1..40", whole, 1, 5, 8),
+        ("1..40", whole, 37, 3, 2),
+        ("1..40", whole, 38, 3, 1),
+        ("1..40", whole, 40, 2, 1),
+        ("1..40", whole, 20, -2, 0),
+        ("1..40", whole, 41, 2, 0),
+        ("1..40", blocks, 2, 3, 3),
+        ("1..40", blocks, 10, 9, 1),
+        ("1..40", around, 2, 8, 5),
+        ("1..40", around, 2, 6, 0),
+        ("1..40", in_threes, 2, 3, 0),
+        ("1..40 by -3", Map::whole(), 40, -6, 7),
+        ("1..40 by -3", Map::whole(), 40, -9, 5),
+        ("1..40 by -3", Map::whole(), 10, 6, 0),
+        ("1..40 by 2", Map::whole(), 3, 4, 8),
+        ("1..40 by 2", Map::whole(), 3, 3, 0),
+    ] {
+        let from = row(&rt, index(&rt, &[first]), step);
+        rows_put(&rt, rt.alloc(), text, map, from, there);
+    }
 }
 
 // On a plane they are put up to the end of the row.

@@ -1,4 +1,4 @@
-// How many words stand side by side in an array of a running program, and so by which map it is cut, which no clause says.
+// How many words stand side by side in an array of a running program, which shows by which map it is cut. No clause says either.
 
 use crate::made::{block, cyclic, in_blocks, index};
 use dpl_array::Row;

@@ -1,6 +1,6 @@
 -- Both domains have the indices 1, 4, 7 and 10, which are computed.
 -- These are the answers to the goals of `alike`.
-use Rattle.std.proofs.Common.{◌≡◌, rules, List, [], ◌∷◌, pos, refl, ap, sym, ◌∙◌}
+use Rattle.std.proofs.Common.{◌≡◌, rules, [], ◌∷◌, pos, refl, ap, sym, ◌∙◌}
 use Rattle.dpl_sets.specs.Ranges.{RangeValue}
 use Rattle.dpl_sets.specs.Indices.{indices}
 use Rattle.dpl_sets.specs.Members.{members}

@@ -2,8 +2,8 @@
 -- These are the answers to the goals of `Piece::run`.
 use Rattle.std.proofs.Common.{◌≡◌, ◌≤◌, ◌+◌, ◌%◌, ◌^◌, arith, ap, sym, subst, ◌∙◌, Some, slice_get, slice_range}
 use Rattle.dpl_array.specs.Elements.{behind, value_at}
-use Rattle.dpl_array.specs.Rows.{row_of}
-use Rattle.dpl_array.proofs.RunLemmas.{RunsFrom, run-values}
+use Rattle.dpl_array.specs.Rows.{row_of, side_by_side}
+use Rattle.dpl_array.proofs.RunLemmas.{StandAt, run-values}
 use Rattle.dpl_array.proofs.piece.Piece.run.Goals as goal
 
 pub returns-in-Some : goal.returns-in-Some
@@ -11,7 +11,7 @@ returns-in-Some g c k v some =
     let p = c.self.inside in
     let place = c.run_in-place.result.0 in
     let size = c.run_in-place.result.1 in
-    let runs : RunsFrom (row_of p.parts.items) place size c.args.row = subst (λ ds. RunsFrom (row_of ds) place size c.args.row) c.deref.ensures.value c.run_in-place.ensures in
+    let runs : StandAt (row_of p.parts.items) (side_by_side place) size c.args.row = subst (λ ds. StandAt (row_of ds) (side_by_side place) size c.args.row) c.deref.ensures.value c.run_in-place.ensures in
     let end = (place + size) % 2 ^ 64 in
     let most : end ≤ place + size = omega arith in
     let is : c.in-Some.values.now ≡ slice_range p.values.items place end = c.in-Some.ensures.lookup.0.2 ∙ ap (λ vs. slice_range vs place end) c.deref-2.ensures.value in
