@@ -1,12 +1,15 @@
 -- What loops do, by the turns of their ranges' members.
 -- Each lemma has the meaning of the plain loop on its left side.
-use Rattle.std.proofs.Common.{◌≡◌, ℕ, zero, suc, ◌+◌, ◌-◌, ◌<◌, arith, nat_lt, ℤ, Bool, true, false, List, [], ◌∷◌, drop, map, slice_get, Some, None, Result, Ok, Err, refl, sym, ap, ◌∙◌}
+use Rattle.std.proofs.Common.{◌≡◌, ℕ, zero, suc, ◌+◌, ◌-◌, ◌≤◌, ◌<◌, arith, nat_lt, ℤ, pos, ◌+ℤ◌, ◌*ℤ◌, length, Bool, true, false, List, [], ◌∷◌, drop, map, slice_get, Some, None, Result, Ok, Err, refl, sym, ap, ◌∙◌}
 use Rattle.std.specs.List.{flat_map}
 use Rattle.dpl_syntax.specs.declared.place.Place.{Place}
-use Rattle.dpl_sets.specs.Ranges.{members_of}
+use Rattle.dpl_sets.specs.Ranges.{RangeValue, members_of}
 use Rattle.dpl_sets.specs.TextRanges.{TextRange}
+use Rattle.dpl_range.specs.Invariant.{IsRange}
 use Rattle.dpl_range.proofs.Lists.{drop-slice_get}
 use Rattle.dpl_sets.specs.Indices.{indices}
+use Rattle.dpl_array.specs.Elements.{Row, along, behind}
+use Rattle.dpl_array.proofs.InRows.{later-member}
 use mathlib.Core.Path.{fun_ext}
 use Rattle.dpl_language.specs.Tree.{AfterComma, Op, ExprTree, ItemTree, VariablesTree, OneVariable, ManyVariables, IntentTree, If, While, For, Forall, Else, Stmts}
 use Rattle.dpl_language.specs.Values.{Value, Truth, truth, Range, Domain, Index, Fault, fault, Budget}
@@ -21,9 +24,10 @@ use Rattle.dpl_lowered.specs.Shapes.{nowhere}
 use Rattle.dpl_lowered.specs.LoweredStatements.{behind_comma, with_intents}
 use Rattle.dpl_memory.specs.Memory.{Variable, Memory, in_memory}
 use Rattle.dpl_nodes.specs.declared.step.Names.{Names}
+use Rattle.dpl_nodes.specs.declared.step.Names.TheVariants.{Int as IntName}
 use Rattle.dpl_nodes.specs.Steps.{listed, variable_in, names_view}
 use Rattle.dpl_loop.specs.declared.stop.RunStop.{RunStop}
-use Rattle.dpl_loop.specs.Runs.{RunsTo}
+use Rattle.dpl_loop.specs.Runs.{AreDone, RunsTo}
 use Rattle.dpl_loop.proofs.Ends.{then_do-halts, halts-alike}
 use Rattle.dpl_elements.specs.Turns.{in_turn, turn_in_memory, bound_at, index_turn, within, looped_over}
 
@@ -53,6 +57,35 @@ pub in_turn-halts : (may : Type 0) (turn : ℤ → Run Memory) (is : List ℤ) (
 in_turn-halts may turn is k i h s next done after at e =
     halts-alike may h next next after (then_do (turn i s done) (in_turn turn (drop (k + 1) is))) (in_turn turn (drop k is) s done)
     (ap (λ is. in_turn turn is s done) (drop-slice_get is k i at)) (then_do-halts may h next next after (turn i s done) (in_turn turn (drop (k + 1) is)) e)
+
+-- turns of a row, which are done, at the members from a place on
+module _ (limits : Limits) (slot : ℕ) (body : Stmts Variable) (r : RangeValue) (are_members : IsRange r) (place : ℕ) (row : Row) (size : ℕ) (s next : Memory) (done : Deeds) (are : AreDone (index_turn limits (IntName slot) body) row size s next) where
+  module _ (i : ℤ) (at : slice_get (members_of r) place ≡ Some i) (first : row.first ≡ i ∷ []) (own : row.step ≡ r.stride) (within : place + size ≤ length (members_of r)) where
+    abbrev turn_there : ℤ → Run Memory
+    turn_there = turn_in_memory limits slot body
+
+    behind-there : (k : ℕ) → behind k row ≡ (i +ℤ r.stride *ℤ pos k) ∷ []
+    behind-there k = ap (λ d. along (d *ℤ pos k) row.first) own ∙ ap (along (r.stride *ℤ pos k)) first
+
+    in_turn-some : (n : ℕ) → n ≤ size → in_turn turn_there (drop (place + n) (members_of r)) (are.between n) done ≡ in_turn turn_there (drop place (members_of r)) s done
+    in_turn-some zero most =
+        let same : place + 0 ≡ place = omega arith in
+        ap (λ k. in_turn turn_there (drop k (members_of r)) (are.between 0) done) same
+        ∙ ap (λ m. in_turn turn_there (drop place (members_of r)) m done) are.begins
+    in_turn-some (suc n) most =
+        let next_place : place + suc n ≡ (place + n) + 1 = omega arith in
+        let next_one : suc n ≡ n + 1 = omega arith in
+        let member : ℤ = i +ℤ r.stride *ℤ pos n in
+        let there : slice_get (members_of r) (place + n) ≡ Some member = later-member r are_members place n i (omega (arith, within, most)) at in
+        let made : turn_there member (are.between n) done ≡ Done (are.between (n + 1)) done =
+        ap (λ t. index_turn limits (IntName slot) body t (are.between n) done) (sym (behind-there n)) ∙ are.each n (omega (arith, most)) done in
+        ap (λ k. in_turn turn_there (drop k (members_of r)) (are.between (suc n)) done) next_place
+        ∙ ap (λ k. in_turn turn_there (drop ((place + n) + 1) (members_of r)) (are.between k) done) next_one
+        ∙ in_turn-done turn_there (members_of r) (place + n) member (are.between n) (are.between (n + 1)) done done there made
+        ∙ in_turn-some n (omega (arith, most))
+
+    pub in_turn-row : in_turn turn_there (drop (place + size) (members_of r)) next done ≡ in_turn turn_there (drop place (members_of r)) s done
+    in_turn-row = ap (λ m. in_turn turn_there (drop (place + size) (members_of r)) m done) (sym are.ends) ∙ in_turn-some size (omega arith)
 
 -- the indices of a domain, one after another
 pub in_order-done : (turn : Index → Run Memory) (ts left : List Index) (t : Index) (s next : Memory) (done after : Deeds) → ts ≡ t ∷ left → turn t s done ≡ Done next after

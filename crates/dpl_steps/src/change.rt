@@ -153,8 +153,8 @@ fn put<A: Arrays>(
     Ok(())
 }
 
-/// The number that an int has after what is done to it, where that is found directly: its right side is, and nothing has a fault. What the
-/// command line may give, and a reduce variable, are not looked at here.
+/// The number that an int has after what is done to it, where that is found directly: its right side is, and nothing has a fault. A
+/// `config const` and `reduce=` are never done so, nor a division by zero.
 #[inline(always)]
 pub(crate) fn direct_number<A: Arrays>(
     deed: &IntDeed<'_>,

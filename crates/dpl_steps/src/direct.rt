@@ -1,5 +1,5 @@
 // Statements that are done directly: what is done to an int whose number is found so, and an `if` over one of these.
-// Whoever runs statements asks here first, and keeps no room for a fault. What isn't done so leaves the frame as it was, and is begun anew.
+// Whoever runs statements asks here first, and on that way needs no room for a fault. What isn't done so leaves the frame as it was, and is begun anew.
 
 ghost use Rattle.std.specs.Prelude.{◌≡◌, true, false, Ok};
 ghost use Rattle.dpl_language.specs.Values.{Truth as TruthValue};

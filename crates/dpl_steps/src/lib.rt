@@ -4,7 +4,7 @@
 // have few. Hence walks hand back one word (`Alarm` of dpl_frame), change.rt evaluates an int's right side in one place whatever is done
 // with it, and statements that make no turns are functions of their own (simple.rt). What can't go wrong is done before any of that, by
 // functions whose answer is a truth value (direct.rt). turn.rt shows that turns made at once are the turns one after
-// another (`AreDone`).
+// another (`AreDone`), those of a forall and those of a `for` (rows.rt).
 #![tactic(auto)]
 
 mod change;
@@ -16,6 +16,7 @@ mod each;
 mod fold;
 mod lineage;
 mod reduce;
+mod rows;
 pub mod simple;
 mod statement;
 mod turn;

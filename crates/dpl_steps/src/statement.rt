@@ -1,5 +1,5 @@
 // Statements one after another, branches and loops.
-// A loop's size is tested once against the budget, and then its turns are made one by one.
+// A loop's size is tested once against the budget; then its turns are made one by one, or several at once (rows.rt).
 
 ghost use Rattle.std.specs.Prelude.{◌≡◌, ◌<◌, ℤ, Some, length, slice_get};
 ghost use Rattle.dpl_sets.specs.Ranges.{members_of};
@@ -23,6 +23,7 @@ use crate::declare::declare_array;
 use crate::direct::{direct_statement, is_met};
 use crate::domain::{declare_domain, set_domain};
 use crate::each::for_each;
+use crate::rows::rows;
 use crate::simple;
 use dpl_elements::{set_array, set_truth_array};
 use dpl_frame::{FaultCode, Frame, RangeWord, Trap};
@@ -79,7 +80,7 @@ pub fn run<'t, C: Context>(
     Ok(())
 }
 
-// A statement that isn't done directly. The kinds that loops are made of come first, without the room that others need; of an `if` the
+// A statement that isn't done directly. The kinds that stand most often in loops come first, without the room that others need; of an `if` the
 // condition is looked for directly.
 #[cycle(run)]
 #[inline(always)]
@@ -318,7 +319,7 @@ fn turn<'t, C: Context>(
     run(body, context, frame, out)
 }
 
-// The turns of a range, in its order.
+// The turns of a range, in its order: several at once as long as that goes, and then one by one.
 #[cycle(run)]
 #[inline(never)]
 fn turns<'t, C: Context>(
@@ -334,7 +335,8 @@ fn turns<'t, C: Context>(
         (in_turn (turn_in_memory frame.old.limits slot (steps_in C.standing body.now)) (members_of range) frame.old.memory (C.having out.old done)) }
     ensures limits { frame.new.limits ≡ frame.old.limits }
 {
-    for k in 0..range.size() {
+    let made = rows(range, slot, body, frame);
+    for k in made..range.size() {
         turn(k, range, slot, body, context, frame, out)?;
     }
     Ok(())

@@ -1,10 +1,10 @@
-// Turns of a forall that are made at once, along a row of indices: those whose body is one assignment to an element, or folds an int onto
-// one that is no variable of the loop. The right sides are evaluated for several turns, and then put side by side, or folded one after another.
+// Turns of a loop that are made at once, along a row of indices: those whose body is one assignment to an element, or folds an int onto
+// one that is no variable of the loop. The right sides are evaluated for several turns, and then put along a row, or folded one after another.
 
 ghost use Rattle.std.specs.Prelude.{◌≡◌, ◌≤◌, true, false};
 ghost use Rattle.dpl_array.specs.Elements.{behind};
 ghost use Rattle.dpl_language.specs.Tree.{IntKind, BoolKind, Set, One, NoStmts, Then};
-ghost use Rattle.dpl_standing.specs.Standing.{InTurn};
+ghost use Rattle.dpl_standing.specs.Standing.{Standing};
 ghost use Rattle.dpl_lowered.specs.Shapes.{nowhere};
 ghost use Rattle.dpl_nodes.specs.Typed.{int_view, truth_view};
 ghost use Rattle.dpl_nodes.specs.Steps.{array_leaf, element_set, int_changed};
@@ -172,7 +172,7 @@ fn fold_row<'t, A: Arrays>(
 }
 
 /// Makes the turns of a row's indices, at most so many, where the body is one assignment to an element, or folds an int onto another one, and
-/// its right sides are found several at once; how many.
+/// its right sides are found several at once; how many. They are what they are wherever the loop stands.
 pub fn make_row<'t, A: Arrays>(
     names: &Names<'t>,
     body: &[Step<'t>],
@@ -181,7 +181,7 @@ pub fn make_row<'t, A: Arrays>(
     frame: &mut Frame<A>,
 ) -> usize
     ensures most { result ≤ most }
-    ensures done { AreDone (index_turn frame.old.limits names.now (steps_in InTurn body.now)) row result frame.old.memory frame.new.memory }
+    ensures done { (w : Standing) → AreDone (index_turn frame.old.limits names.now (steps_in w body.now)) row result frame.old.memory frame.new.memory }
     ensures limits { frame.new.limits ≡ frame.old.limits }
 {
     let [step] = body else {

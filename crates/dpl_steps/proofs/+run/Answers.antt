@@ -1,29 +1,29 @@
 -- Statements by their forms, and the turns of loops one by one.
-use Rattle.std.proofs.Common.{◌≡◌, ◌<◌, ◌-◌, ℤ, pos, true, false, drop, length, get_or, slice_get, Some, None, Ok, sym, subst, ap, ◌∙◌, rules}
+use Rattle.std.proofs.Common.{◌≡◌, ◌≤◌, ◌<◌, ◌-◌, arith, ℤ, pos, true, false, drop, length, get_or, slice_get, Some, None, Ok, sym, subst, ap, ◌∙◌, rules}
+use Rattle.std.proofs.lemmas.List.{drop_all}
 use Rattle.std.proofs.lemmas.Option.{slice_get-get_or}
 use Rattle.std.proofs.lemmas.Result.{err_from_is_err_and}
 use Rattle.dpl_sets.specs.Ranges.{members_of}
 use Rattle.dpl_language.specs.Tree.{One, Set}
 use Rattle.dpl_language.specs.Values.{Truth}
-use Rattle.dpl_language.specs.Outcome.{Done, then_do, in_order, repeated}
+use Rattle.dpl_language.specs.Outcome.{then_do, in_order, repeated}
 use Rattle.dpl_language.specs.Expressions.{value_of}
 use Rattle.dpl_language.specs.Statements.{holds, exec, exec_all}
 use Rattle.dpl_lowered.specs.Shapes.{nowhere}
 use Rattle.dpl_words.specs.Words.{RangeLeaf}
 use Rattle.dpl_memory.specs.Memory.{in_memory}
-use Rattle.dpl_nodes.specs.Typed.{int_view, truth_view, range_item, domain_view}
+use Rattle.dpl_nodes.specs.Typed.{truth_view, range_item, domain_view}
 use Rattle.dpl_contents.specs.Range.{range_word}
 use Rattle.dpl_frame.specs.Frames.{Framed}
 use Rattle.dpl_readings.specs.Readings.{step_in, else_in, steps_in}
-use Rattle.dpl_elements.specs.Turns.{turn_in_memory, index_turn}
-use Rattle.dpl_elements.specs.Changes.{ends_as}
-use Rattle.dpl_nodes.proofs.Unread.{cell_read-int, item_read-range}
+use Rattle.dpl_elements.specs.Turns.{in_turn, turn_in_memory, index_turn}
+use Rattle.dpl_nodes.proofs.Unread.{item_read-range}
 use Rattle.dpl_array.proofs.WalkLemmas.{walk-next, walk-end}
 use Rattle.dpl_loop.proofs.Ends.{then_do-halts, halts-alike, ends-alike}
 use Rattle.dpl_values.specs.Reductions.{EachInInts, EachInTruths, EachInRange, EachInDomain}
 use Rattle.dpl_elements.proofs.Dealing.{ends-wider, some-of-whole}
 use Rattle.dpl_steps.proofs.Refusing.{some-of-forall, some-of-array}
-use Rattle.dpl_elements.proofs.Changing.{gives-halts, gives-ends, exec-declared, exec-assigned, exec-int}
+use Rattle.dpl_elements.proofs.Changing.{gives-halts, exec-declared, exec-assigned}
 use Rattle.dpl_steps.proofs.Looping.{in_order-done, in_order-halts, for-domain, scoped-same, in_turn-done, in_turn-halts, for-turns, repeated-fault, repeated-ends, repeated-step, holds-value, holds-fault, if-then, exec-while}
 use Rattle.dpl_readings.proofs.Views.{for_each_in, forall_in, block_in, if_in, while_in, for_in, forall_line_in}
 use Rattle.dpl_steps.proofs.+run.Goals as goal
@@ -103,6 +103,12 @@ statement::turns-returns-in_err-turn-clause-ends g t c done =
     (in_turn-halts _ (turn_in_memory c.args.frame.now.limits c.args.slot (steps_in standing c.args.body.now)) is k i h w next d after at
     (halts-alike _ h next next after _ _ (ap (λ l. turn_in_memory l c.args.slot (steps_in standing c.args.body.now) i w d) (sym c.loop-k.invariant.limits)) (c.in_err-turn.ensures.ends i done at))))
 
+pub statement::turns-loop-k-init : goal.statement::turns-loop-k-init
+statement::turns-loop-k-init g t c =
+    let having = g.C.Context.having in
+    let standing = g.C.Context.standing in
+    record { ends = λ done. c.rows-made.ensures.goes standing (having c.args.out.now done); limits = c.rows-made.ensures.limits }
+
 pub statement::turns-loop-k-preserved : goal.statement::turns-loop-k-preserved
 statement::turns-loop-k-preserved g t c =
     let having = g.C.Context.having in
@@ -121,6 +127,16 @@ statement::turns-loop-k-preserved g t c =
           ∙ c.loop-k.invariant.ends done;
       limits = c.in_ok-turn.ensures.limits ∙ c.loop-k.invariant.limits;
     }
+
+pub statement::turns-returns-clause-ends : goal.statement::turns-returns-clause-ends
+statement::turns-returns-clause-ends g t c done =
+    let having = g.C.Context.having in
+    let standing = g.C.Context.standing in
+    let is = members_of c.args.range in
+    let k = c.loop-k.k in
+    let past : length is ≤ k = omega (arith, c.size-k-end.ensures.length, c.loop-k-test.false) in
+    sym (c.loop-k.invariant.ends done)
+    ∙ ap (λ is. in_turn (turn_in_memory c.args.frame.now.limits c.args.slot (steps_in standing c.args.body.now)) is c.loop-k.frame.memory (having c.loop-k.out done)) (drop_all k is past)
 
 -- DOMAINS AND ARRAYS
 pub statement::any_statement-returns-in-DeclareDomain-clause-ends : goal.statement::any_statement-returns-in-DeclareDomain-clause-ends

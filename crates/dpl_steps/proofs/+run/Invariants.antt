@@ -40,13 +40,13 @@ invariant-statement::walked_while-loop-left g l = record {
 abbrev pub decreases-statement::walked_while-loop-left : goal.decreases-statement::walked_while-loop-left
 decreases-statement::walked_while-loop-left g l = l.left
 
--- the turns that are left, from here, are all turns from the start
+-- the turns that are left, from here, are all turns of the loop
 abbrev pub invariant-statement::turns-loop-k : goal.invariant-statement::turns-loop-k
 invariant-statement::turns-loop-k g l = record {
-  ends : (done : Deeds) → let turn = turn_in_memory l.initial.frame.limits l.slot (steps_in g.C.Context.standing l.body) in
+  ends : (done : Deeds) → let turn = turn_in_memory l.fn.frame.limits l.slot (steps_in g.C.Context.standing l.body) in
       in_turn turn (drop l.k (members_of l.range)) l.frame.memory (g.C.Context.having l.out done)
-      ≡ in_turn turn (members_of l.range) l.initial.frame.memory (g.C.Context.having l.initial.out done);
-  limits : l.frame.limits ≡ l.initial.frame.limits;
+      ≡ in_turn turn (members_of l.range) l.fn.frame.memory (g.C.Context.having l.fn.out done);
+  limits : l.frame.limits ≡ l.fn.frame.limits;
 }
 
 -- the indices that are left, from here, are all indices from the start

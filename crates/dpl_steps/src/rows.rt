@@ -1,0 +1,70 @@
+// The turns of a `for` that are made at once, along its range, as those of a forall are (turn.rt). Each of them does what it does where the
+// turns are made one after another, so it matters in no context that they are made so.
+
+ghost use Rattle.std.specs.Prelude.{◌≡◌, ◌+◌, ◌≤◌, ◌<◌, drop, length};
+ghost use Rattle.dpl_sets.specs.Ranges.{members_of};
+ghost use Rattle.dpl_language.specs.Outcome.{Deeds};
+ghost use Rattle.dpl_standing.specs.Standing.{Standing};
+ghost use Rattle.dpl_readings.specs.Readings.{steps_in};
+ghost use Rattle.dpl_elements.specs.Turns.{in_turn, turn_in_memory};
+
+use crate::turn::make_row;
+use dpl_frame::{Arrays, Frame};
+use dpl_loop::Row;
+use dpl_nodes::{Names, Step};
+use dpl_range::Range;
+use dpl_strips::index::coordinate;
+
+// The fewest turns that are asked for together: fewer cost more than they serve.
+const FEW: u64 = 16;
+
+// How many turns are made at once from the member at a place on.
+fn row<'t, A: Arrays>(
+    range: Range,
+    place: u64,
+    slot: usize,
+    body: &[Step<'t>],
+    frame: &mut Frame<A>,
+) -> u64
+    requires { place < length (members_of range) }
+    ensures within { place + result ≤ length (members_of range) }
+    ensures goes { (w : Standing) (done : Deeds)
+        → in_turn (turn_in_memory frame.old.limits slot (steps_in w body.now)) (drop (place + result) (members_of range)) frame.new.memory done
+        ≡ in_turn (turn_in_memory frame.old.limits slot (steps_in w body.now)) (drop place (members_of range)) frame.old.memory done }
+    ensures limits { frame.new.limits ≡ frame.old.limits }
+{
+    let left = range.size() - place;
+    if left < FEW {
+        return 0;
+    }
+    let Some(i) = range.nth(place) else {
+        unreachable!()
+    };
+    let row = Row::new(coordinate(i), range.stride());
+    make_row(&Names::Int(slot), body, row, left as usize, frame) as u64
+}
+
+/// How many turns of a range are made at once from its first member on, one row after another.
+#[inline(never)]
+pub(crate) fn rows<'t, A: Arrays>(
+    range: Range,
+    slot: usize,
+    body: &[Step<'t>],
+    frame: &mut Frame<A>,
+) -> u64
+    ensures within { result ≤ length (members_of range) }
+    ensures goes { (w : Standing) (done : Deeds)
+        → in_turn (turn_in_memory frame.old.limits slot (steps_in w body.now)) (drop result (members_of range)) frame.new.memory done
+        ≡ in_turn (turn_in_memory frame.old.limits slot (steps_in w body.now)) (members_of range) frame.old.memory done }
+    ensures limits { frame.new.limits ≡ frame.old.limits }
+{
+    let mut place = 0;
+    while place < range.size() {
+        let made = row(range, place, slot, body, frame);
+        if made == 0 {
+            return place;
+        }
+        place += made;
+    }
+    place
+}
