@@ -1,5 +1,5 @@
 #!/bin/sh
-# Runs loops by workers over and over on two cores: each example on 64 locales by each choice of maps, and the rows of dpl_rows (each under 18 settings, by an open gate and
+# Runs loops by workers over and over on two cores: each example on 64 locales by each choice of maps, and the rows of dpl_rows (each under 21 settings, by an open gate and
 # by one that isn't, at which workers make every loop that they may). However the threads are scheduled, there is one answer.
 # usage: scripts/stress.sh [TIMES [DPL [ROWS]]]. ROWS is the executable of dpl_rows as `rt ci` leaves it.
 set -eu

@@ -1,6 +1,6 @@
 // The runs of rows, by every setting: where all write the same that is told once.
-// Each setting is run by two gates. Where the gate is open the loops of rows are too small for workers; by one that isn't they are made by
-// workers, where they may be.
+// Each setting is run by two gates. Where the gate is open most loops of rows are too small for workers, and the caller makes them, in order or
+// part by part; by one that isn't open they are made by workers, where they may be.
 
 use crate::row::{Row, row_of};
 use dpl_run::{Config, Gate, Maps, OpenGate, Plain, Refused, run_text};
@@ -9,8 +9,9 @@ use std::sync::Wait;
 use std::thread::Threads;
 
 // Numbers of locales, and how many lie along each dimension of the two grids.
-const LAYOUTS: [(u32, [u32; 2], [u32; 3]); 6] = [
+const LAYOUTS: [(u32, [u32; 2], [u32; 3]); 7] = [
     (1, [1, 1], [1, 1, 1]),
+    (2, [2, 1], [1, 2, 1]),
     (3, [1, 3], [3, 1, 1]),
     (4, [2, 2], [1, 2, 2]),
     (4, [4, 1], [2, 1, 2]),
