@@ -106,7 +106,7 @@ impl ArrayWords {
         self.array.set(index, word)
     }
 
-    /// Puts the first of some words at the indices of a row, as many as stand side by side in a piece, and answers how many were put. There
+    /// Puts the first of some words at the indices of a row, as many as stand in one row of a piece, and answers how many were put. There
     /// may be none, though the array has the index: [`DArray::set_run`] tells where.
     #[inline(always)]
     pub fn set_run(&mut self, row: Row, words: &[i64]) -> usize

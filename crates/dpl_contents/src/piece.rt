@@ -83,7 +83,7 @@ impl PieceWords {
         self.piece.set(index, word)
     }
 
-    /// Puts the first of some words at the indices of a row, as many as stand side by side, and answers how many were put. There
+    /// Puts the first of some words at the indices of a row, as many as stand in one row of the piece, and answers how many were put. There
     /// may be none, though the piece has the index: [`Piece::set_run`] tells where.
     #[inline(always)]
     pub fn set_run(&mut self, row: Row, words: &[i64]) -> usize

@@ -1,4 +1,4 @@
--- Ints that go into elements side by side, and what that leaves of all arrays.
+-- Ints that go into the elements of a row, and what that leaves of all arrays.
 -- It is what putting them one by one does: the next int finds what those before it have left.
 use Rattle.std.specs.Prelude.{◌≡◌, ◌≢◌, ◌+◌, ◌<◌, ℕ, pos, List, get_or}
 use Rattle.dpl_array.specs.Elements.{Row, behind}

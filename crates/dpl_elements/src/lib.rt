@@ -1,4 +1,4 @@
-// Elements and whole arrays are assigned: one element, a row of elements side by side, an array at each of its indices.
+// Elements and whole arrays are assigned: one element, a row of elements, an array at each of its indices.
 // What is assigned is evaluated as the language's meaning has it, and the memory afterwards is that of the meaning.
 #![tactic(auto)]
 

@@ -1,4 +1,4 @@
-// Ints that go into elements side by side, by whichever operator divides none.
+// Ints that go into the elements of a row, by whichever operator divides none.
 // It is as if each went into its element alone, one after another: none of them has a fault.
 
 ghost use Rattle.std.specs.Prelude.{◌≡◌, ◌≤◌, ◌<◌, ℕ, ℤ, pos, false, List, Some, None, get_or};

@@ -72,8 +72,8 @@ pub trait Arrays: Drop {
         ensures changes { OnOk result (held self.new
             ≡ set (held self.old) slot (held_with (i ∷ j ∷ k ∷ []) word (get_or (held self.old) slot no_array))) };
 
-    /// Puts the first of some words at the indices of a row of the array in a slot, as many as stand side by side, and answers how many were
-    /// put. There may be none, though the array has the index; they spare a loop the writes one by one.
+    /// Puts the first of some words at the indices of a row of the array in a slot, as many as stand in one row of a piece, and answers how
+    /// many were put. There may be none, though the array has the index; they spare a loop the writes one by one.
     fn put_run(&mut self, slot: usize, row: Row, words: &[i64]) -> usize
         ensures most { result ≤ length words.now }
         ensures there { (k : ℕ) → k < result → is_some (held_at (behind k row) (get_or (held self.old) slot no_array)) ≡ true }

@@ -155,8 +155,8 @@ impl<A: Arrays> Frame<A> {
         self.arrays.put(slot, index, word)
     }
 
-    /// Puts the first of some words at the indices of a row of the array in a slot, as many as stand side by side, and answers how many were
-    /// put. There may be none, though the array has the index.
+    /// Puts the first of some words at the indices of a row of the array in a slot, as many as stand in one row of a piece, and answers how
+    /// many were put. There may be none, though the array has the index.
     #[inline(always)]
     pub fn put_run(&mut self, slot: usize, row: Row, words: &[i64]) -> usize
         ensures most { result ≤ length words.now }

@@ -152,7 +152,7 @@ impl Share {
         }
     }
 
-    // Puts the first of some words at the indices of a row, as many as stand side by side. Where the array is lent none are put.
+    // Puts the first of some words at the indices of a row, as many as stand in one row of a piece. Where the array is lent none are put.
     #[inline(always)]
     pub(crate) fn put_run(&mut self, row: Row, words: &[i64]) -> usize
         ensures most { result ≤ length words.now }

@@ -80,7 +80,7 @@ fn put_space_in(array: &mut Option<ArrayWords>, i: i64, j: i64, k: i64, word: i6
     }
 }
 
-// Puts the first of some words at the indices of a row, if there is an array that has them side by side.
+// Puts the first of some words at the indices of a row, if there is an array that has them in one row of a piece.
 fn put_run_in(array: &mut Option<ArrayWords>, row: Row, words: &[i64]) -> usize
     ensures most { result ≤ length words.now }
     ensures there { (k : ℕ) → k < result → is_some (held_at (behind k row) (held_in array.old)) ≡ true }

@@ -1,4 +1,4 @@
-// The jobs of a forall's parts are done: by a worker each, on a thread of its own, or by the caller, one after another.
+// How the jobs of a forall's parts are done: by a worker each, on a thread of its own, or by the caller, one after another.
 // A level starts the worker of the last job, goes down for those before it, then joins the worker and takes what it has left.
 
 ghost use Rattle.std.specs.Prelude.{◌≡◌, [], IfOk, IfErr};

@@ -70,7 +70,7 @@ fn serve<G: Gate>(domain: &Domain, map: &Map, gate: &G) -> bool {
     1 < map.locales() && WORTH <= domain.size() && has_long_blocks(domain, map)
 }
 
-// Of so many indices of a row that a locale owns the turns are made at once.
+// Of so many indices of a row that a locale owns the turns are made at once, as in together.rt.
 const FEW: u64 = 16;
 
 // Whether the next index of a row lies with another locale each time, and each locale has many of them: in order no two turns are made at
@@ -219,11 +219,11 @@ fn by_parts<T: Turns + Sync, G: Gate + Sync, R: Threads + Wait + Sync>(
 }
 
 /// A forall over a domain, dealt out by a map: by workers, one for each locale whose part isn't empty, where its turns may be made apart and
-/// workers serve, and else by the caller, in order or part by part. For each turn the owner of its index enters the gate, unless the gate is open. All workers that
-/// were started are joined before it answers.
+/// workers serve, and else by the caller, in order or part by part. For each turn the owner of its index enters the gate, unless the gate is
+/// open. All workers that were started are joined before it answers.
 ///
 /// # Errors
-/// The first of these that came up in a worker: out of memory; a worker was not started; the gate refused an entry, which it may; or the
+/// The first of these that came up in a part: out of memory; a worker was not started; the gate refused an entry, which it may; or the
 /// fault of the first turn that has one, with its turn. Unless it ended well, nothing is said of the frame's memory.
 pub fn forall<T: Turns + Sync, G: Gate + Sync, R: Threads + Wait + Sync>(
     rt: &R,

@@ -1,4 +1,4 @@
-// Strips: the ints, or the truth values, of several indices at once, of an expression over whole arrays and of one in the turns of a forall.
+// Strips: the ints of several indices at once, of an expression over whole arrays and of one in the turns of a loop; and truth values in turns.
 // A strip says of each int that it has that it is the value at its index, and never how many it has: whoever asks for one goes on index by
 // index where it has none, so that a fault and its turn are the walk's alone. It is read before the turns that write, so it must not see what
 // they write. A promoted expression reads at the index that is written alone; an expression in a turn may read elsewhere, so it has no strip

@@ -1,4 +1,4 @@
-// The operators on truth values that are kept as words: 1 is true and 0 is false, as elements of arrays are written.
+// Operators on truth values that are kept as words, and comparisons, which give such words: 1 is true and 0 is false, as elements are written.
 // Two words are put together whether the left one decides or not: a strip has no fault on the right either.
 
 ghost use Rattle.std.specs.Prelude.{◌≡◌, Bool, pos, ◌&&◌, ◌||◌, not, int_lt, int_le};
