@@ -2,14 +2,12 @@
 // Every row is run once on the built code; that the values are right is what the contracts say.
 
 ghost use Rattle.std.specs.Prelude.{◌≡◌};
-ghost use Rattle.dpl_sets.specs.Indices.{indices};
 
 use crate::made::{block, count, cyclic, domain, in_blocks, index, squares};
 use dpl_array::DArray;
 use dpl_domain::{Domain, Index};
 use dpl_halo::{Halo, Loan, Shift, Subscript};
 use dpl_map::Map;
-use dpl_range::Range;
 use std::alloc::Global;
 use std::process::Abort;
 
@@ -111,37 +109,6 @@ fn loans(rt: HostRuntime) {
     assert_eq!(&rt; loan.get(index(&rt, &[1])), None);
     assert!(&rt; loan.domain() == array.domain());
     settle(&rt, loan, &mut array);
-}
-
-// `{1..10 by 3}` and `{1..12 by 3}`, which have the same indices.
-fn alike(rt: &impl Abort) -> (Domain, Domain)
-    ensures { indices result.0 ≡ indices result.1 }
-{
-    let short = Range::new(1, 10, 3).expect(rt, "a range");
-    let long = Range::new(1, 12, 3).expect(rt, "a range");
-    let first = Domain::new(&[short]).expect(rt, "a domain");
-    let second = Domain::new(&[long]).expect(rt, "a domain");
-    (first, second)
-}
-
-// A loan of an array is settled with one whose domain has the same indices and is written another way, and that has another map.
-#[test]
-fn settled_over_the_same_indices(rt: HostRuntime) {
-    let (ten, twelve) = alike(&rt);
-    let from = squares(&rt, rt.alloc(), ten, Map::whole());
-    let mut array = squares(&rt, rt.alloc(), twelve, cyclic(&rt, &[1], &[2]));
-    let Ok(mut loan) = Loan::collect(rt.alloc(), &from, &[domain(&rt, "4..7")]) else {
-        panic!(&rt; "there is memory for the loan")
-    };
-    assert!(&rt; loan.set(index(&rt, &[7]), 5));
-    assert!(&rt; loan.domain() == ten);
-    assert!(&rt; array.domain() == twelve);
-    loan.settle(&mut array);
-    for (i, value) in [(1, 1), (4, 16), (7, 5), (10, 100)] {
-        assert_eq!(&rt; array.get_line(i), Some(value));
-    }
-    assert!(&rt; ten != twelve);
-    assert!(rt; array.domain() == twelve);
 }
 
 // Settles a loan of two written elements with an array.
