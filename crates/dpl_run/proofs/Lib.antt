@@ -21,3 +21,7 @@ pub mod EnteredLowered
 pub mod ForallsStand
 pub mod TurnsMap
 pub mod Dealt
+-- Maps and roots change nothing of what a program writes, and of how it ends (read MapsForgotten last).
+pub mod SeenAlike
+pub mod ButForRoots
+pub mod MapsForgotten

@@ -12,3 +12,5 @@ pub mod Refusing
 -- Which foralls a run enters, and by which map their turns are dealt out.
 pub mod Entered
 pub mod Dealing
+-- A program without its maps, and variables without roots.
+pub mod Unmapped
