@@ -259,7 +259,7 @@ fn meeting_nobody(rt: HostRuntime) {
 }
 
 // A forall over eight indices, by blocks of two on four locales, and a sum over its array.
-const SQUARES: &str =
+pub(crate) const SQUARES: &str =
     "const D = {1..8} dmapped new blockDist(boundingBox={1..8}); var A: [D] int; forall i in D do A[i] = i*i; writeln(+ reduce A); writeln(A);";
 
 // Each of two workers makes two turns of the forall and folds two items of the sum, and they meet at all four.

@@ -8,6 +8,8 @@ mod entries;
 #[cfg(test)]
 mod gates;
 #[cfg(test)]
+mod growths;
+#[cfg(test)]
 mod leaves;
 #[cfg(test)]
 mod programs;
