@@ -20,4 +20,7 @@ pub mod EnteredAlike
 pub mod EnteredLowered
 pub mod ForallsStand
 pub mod TurnsMap
+-- A run that keeps a record of its foralls has on it those that it enters: so what is counted is what is dealt out.
+pub mod RecordKept
+pub mod Recorded
 pub mod Dealt
