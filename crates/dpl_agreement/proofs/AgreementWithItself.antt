@@ -38,8 +38,8 @@ module _ {N G S : Type 0} (limits : Limits) (scoping : Scoping N G) (env : Envir
     suited_new = λ x item v g s1 s2 r f d e. held x (Plain v);
     suited_element = λ x item v g s1 s2 r f e. held x (Plain v);
     suited_once = λ x item v g s1 s2 r f w e. held x (Plain v);
-    suited_turn = λ x item t v g s1 s2 r f w e. held x (Plain v);
-    suited_initial = λ x over item t v g s1 s2 r f d e. held x (Plain v);
+    suited_turn = λ x item t v g s1 s2 r f w p e. held x (Plain v);
+    suited_initial = λ x over item t v g s1 s2 r f d p e. held x (Plain v);
     changed = λ x op t old w g s1 s2 r f e h. held x (Plain (assigned op None old w));
     turned = λ x item over g s1 s2 r f e. All-every (λ t. scoping.holds x (Plain (loop_value over t))) (λ t. held x (Plain (loop_value over t))) (indices_in (loop_ranges limits.locales over));
     spanned = λ x from items v g s1 s2 r f d e. held x (Plain v);

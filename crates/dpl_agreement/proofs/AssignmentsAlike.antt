@@ -22,7 +22,7 @@ use Rattle.dpl_language.specs.Loops.{within_budget, named_turn}
 use Rattle.dpl_language.specs.Writing.{line_end, arguments_of, name_shown, shown, arguments_then, write}
 use Rattle.dpl_agreement.specs.Renamed.{renamed, renamed_expr, renamed_item, renamed_exprs, renamed_target, renamed_call, renamed_argument, renamed_write, renamed_read}
 use Rattle.dpl_agreement.specs.Scopes.{Scoping, items_in, fits_item, fits_exprs, fits_read, fits_side, fits_whole_side, side_for, suits_target, fits_target, fits_call, fits_shown, fits_arguments}
-use Rattle.dpl_agreement.specs.Agreement.{MayRead, MayBe, WasDomain, WasArray, WasPlain, WasOnce, Simulates, EndsAlike, RunAlike, AnswersAlike}
+use Rattle.dpl_agreement.specs.Agreement.{MayRead, MayBe, WasDomain, WasArray, WasPlain, HadWhole, Simulates, EndsAlike, RunAlike, AnswersAlike}
 use Rattle.dpl_agreement.proofs.RunsAlike.{All-every, with_value-alike, with_value-alike_by, unless-alike, within_budget-alike, named_turn-alike}
 use Rattle.dpl_agreement.proofs.RenamedParts.{item_read-renamed, bare_name-renamed, arguments_of-renamed}
 use Rattle.dpl_agreement.proofs.ExpressionsAlike.{items_of-in, fits_item-once, value_of-renamed, item_of-renamed, values_of-renamed, whole_item-renamed}
@@ -127,18 +127,18 @@ module _ {M N G S1 S2 : Type 0} (limits : Limits) (name : N → M) (scoping : Sc
       (All-every (λ t. RunAlike (R g) (R g) (named_turn a t) (named_turn b t)) (named_turn-alike (R g) a b p) (indices_in rs))
 
   assign_array-alike : (x : Placed N) (sign : AssignTree) (item : ItemTree N) (rs : List TextRange) (o : Option (List TextRange)) (g : G)
-      → scoping.assigns x.name sign.op g → WasArray second R x.name g → (o ≡ None → WasOnce limits second R item g) → ((t : Index) → scoping.reads_at x.name t g × scoping.assigns_at x.name t g) → fits_whole_side scoping item g → scoping.suits x.name item g
+      → scoping.assigns x.name sign.op g → WasArray second R x.name g → HadWhole limits second R item g o → ((t : Index) → scoping.reads_at x.name t g × scoping.assigns_at x.name t g) → fits_whole_side scoping item g → scoping.suits x.name item g
       → RunAlike (R g) (R g) (assign_array limits first (renamed name x) sign (renamed_item name item) rs o) (assign_array limits second x sign item rs o)
-  assign_array-alike x sign item rs None g a was once e f h s1 s2 done r =
+  assign_array-alike x sign item rs None g a was whole e f h s1 s2 done r =
       evaluated-alike_by item g g _ _ (fits_item-once scoping [] item g (f.0 []), f.1)
       (λ w u1 u2 q m. turns_alike sign.at rs g (λ t. change limits first (renamed name x) sign t w) (λ t. change limits second x sign t w)
-      (λ t. change_whole-alike x sign t w g a (e t).0 (e t).1 (sim.suited_once x.name item w g u1 u2 q h (once refl) m))) s1 s2 done r
-  assign_array-alike x sign item rs (Some arrays) g a was once e f h s1 s2 done r =
+      (λ t. change_whole-alike x sign t w g a (e t).0 (e t).1 (sim.suited_once x.name item w g u1 u2 q h whole m))) s1 s2 done r
+  assign_array-alike x sign item rs (Some arrays) g a was whole e f h s1 s2 done r =
       turns_alike sign.at rs g
       (λ t s done. with_value (item_of limits first (renamed_item name item) (Some t) s) (change limits first (renamed name x) sign t) s done)
       (λ t s done. with_value (item_of limits second item (Some t) s) (change limits second x sign t) s done)
       (λ t s1 s2 done r. with_value-alike_by (R g) _ _ _ _ s1 s2 done (item_of-renamed limits name scoping first second R sim item (Some t) g s1 s2 r (f.0 t))
-      (λ w m. change_whole-alike x sign t w g a (e t).0 (e t).1 (sim.suited_turn x.name item t w g s1 s2 r h was m) s1 s2 done r)) s1 s2 done r
+      (λ w m. change_whole-alike x sign t w g a (e t).0 (e t).1 (sim.suited_turn x.name item t w g s1 s2 r h was (arrays, whole) m) s1 s2 done r)) s1 s2 done r
 
   -- A DOMAIN
   redomained-alike : (x : Placed N) (sign : AssignTree) (v : Value) (g : G) → scoping.assigns x.name sign.op g → WasDomain second R x.name g → scoping.holds x.name (Plain v) → (b : Bool)
@@ -175,7 +175,7 @@ module _ {M N G S1 S2 : Type 0} (limits : Limits) (name : N → M) (scoping : Sc
       (assign_array limits second x sign item rs o s2 done))
       (whole_item-renamed limits name scoping first second R sim item (Some []) g s1 s2 r (f.0 []))
       (assign_array-alike x sign item rs (whole_item limits first (renamed_item name item) s1) g a (whole rs refl)
-      (λ o. (s1, s2, r, sym (whole_item-renamed limits name scoping first second R sim item (Some []) g s1 s2 r (f.0 [])) ∙ o)) e f h s1 s2 done r)
+      (s1, s2, r, sym (whole_item-renamed limits name scoping first second R sim item (Some []) g s1 s2 r (f.0 []))) e f h s1 s2 done r)
   assign_name-alike x sign item None true g a whole plain was e f h s1 s2 done r = assign_domain-alike x sign item g a (plain refl) (was refl) (fits_item-once scoping [] item g (f.0 []), f.1) h s1 s2 done r
   assign_name-alike x sign item None false g a whole plain was e f h s1 s2 done r = assign_plain-alike x sign item g a (plain refl) (fits_item-once scoping [] item g (f.0 []), f.1) h s1 s2 done r
 

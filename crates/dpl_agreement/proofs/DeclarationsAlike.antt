@@ -16,7 +16,7 @@ use Rattle.dpl_language.specs.Expressions.{item_of, whole_item}
 use Rattle.dpl_language.specs.Declarations.{gathered, filled, Shell, array_with, type_of, declaring, initial_then, declare_with, array_of_item, array_of_init, array_of, declare_array, declare_typed, given_or, declare_by, declare}
 use Rattle.dpl_agreement.specs.Renamed.{renamed, renamed_item, renamed_items, renamed_array_type, renamed_type, renamed_init, renamed_initial, renamed_declare, renamed_content}
 use Rattle.dpl_agreement.specs.Scopes.{Form, PlainForm, ArrayForm, CellForm, form_of, form_by, Scoping, side_by, fits_items, fits_side, fits_whole_side, fits_type, fits_init, fits_initial, fits_given, holds_cells, suits_elements, suits_array, suits_init, suits_initial, suits_declared, fits_declare}
-use Rattle.dpl_agreement.specs.Agreement.{WasOnce, Simulates, EndsAlike, RunAlike}
+use Rattle.dpl_agreement.specs.Agreement.{HadWhole, Simulates, EndsAlike, RunAlike}
 use Rattle.dpl_agreement.proofs.RunsAlike.{All-every, with_ok-same, with_value-alike, with_value-alike_by, unless-alike}
 use Rattle.dpl_agreement.proofs.RenamedParts.{declared_over-renamed, type_of-renamed}
 use Rattle.dpl_agreement.proofs.ExpressionsAlike.{fits_item-once, item_of-renamed, domain_of-renamed, whole_item-renamed}
@@ -96,21 +96,21 @@ module _ {M N G S1 S2 : Type 0} (limits : Limits) (name : N → M) (scoping : Sc
       by (Ok v) h (Err f) hs e = cc
       by (Err f) h q hs e = cc
 
-  array_of_item-alike : (x : Placed N) (a : Shell N) (at : Place) (item : ItemTree N) (o : Option (List TextRange)) (g : G) → fits_whole_side scoping item g → scoping.declares x.name (ArrayForm a.over) g → HoldsArray x a → scoping.suits x.name item g → (o ≡ None → WasOnce limits second R item g)
+  array_of_item-alike : (x : Placed N) (a : Shell N) (at : Place) (item : ItemTree N) (o : Option (List TextRange)) (g : G) → fits_whole_side scoping item g → scoping.declares x.name (ArrayForm a.over) g → HoldsArray x a → scoping.suits x.name item g → HadWhole limits second R item g o
       → RunAlike (R g) (R (scoping.add x.name (ArrayForm a.over) g)) (array_of_item limits first (renamed name x) (renamed_shell a) at (renamed_item name item) o) (array_of_item limits second x a at item o)
-  array_of_item-alike x a at item None g f d h k once s1 s2 done r =
+  array_of_item-alike x a at item None g f d h k whole s1 s2 done r =
       evaluated-alike_by limits name scoping first second R sim item g (scoping.add x.name (ArrayForm a.over) g) _ _ (fits_item-once scoping [] item g (f.0 []), f.1)
       (λ v u1 u2 q m. unless-alike (nat_lt limits.budget (size_in a.ranges)) (fault Budget at) (R g) (R (scoping.add x.name (ArrayForm a.over) g)) _ _
       (declaring-alike x (array_with a (filled v a.ranges)) (ArrayForm a.over) g refl d
-      (h (filled v a.ranges) (filled-held x v a.ranges (sim.suited_once x.name item v g u1 u2 q k (once refl) m))))) s1 s2 done r
-  array_of_item-alike x a at item (Some arrays) g f d h k once s1 s2 done r =
+      (h (filled v a.ranges) (filled-held x v a.ranges (sim.suited_once x.name item v g u1 u2 q k whole m))))) s1 s2 done r
+  array_of_item-alike x a at item (Some arrays) g f d h k whole s1 s2 done r =
       unless-alike (nat_lt limits.budget (size_in a.ranges)) (fault Budget at) (R g) (R (scoping.add x.name (ArrayForm a.over) g))
       (λ s done. with_value (gathered (λ t. item_of limits first (renamed_item name item) (Some t) s) (indices_in a.ranges)) (λ vs. declaring limits first (renamed name x) (array_with (renamed_shell a) vs)) s done)
       (λ s done. with_value (gathered (λ t. item_of limits second item (Some t) s) (indices_in a.ranges)) (λ vs. declaring limits second x (array_with a vs)) s done)
       (λ s1 s2 done r. with_value-alike_by (R (scoping.add x.name (ArrayForm a.over) g)) _ _ _ _ s1 s2 done
       (gathered-same _ _ (indices_in a.ranges) (λ t. item_of-renamed limits name scoping first second R sim item (Some t) g s1 s2 r (f.0 t)))
       (λ vs e. declaring-alike x (array_with a vs) (ArrayForm a.over) g refl d
-      (h vs (gathered-held x (λ t. item_of limits second item (Some t) s2) (λ t v m. sim.suited_initial x.name a.over item t v g s1 s2 r k d m) (indices_in a.ranges) vs e)) s1 s2 done r))
+      (h vs (gathered-held x (λ t. item_of limits second item (Some t) s2) (λ t v m. sim.suited_initial x.name a.over item t v g s1 s2 r k d (arrays, whole) m) (indices_in a.ranges) vs e)) s1 s2 done r))
       s1 s2 done r
 
   array_of_init-alike : (x : Placed N) (a : Shell N) (at : Place) (i : InitTree N) (g : G) → fits_init scoping (fits_whole_side scoping) i g → scoping.declares x.name (ArrayForm a.over) g → HoldsArray x a → suits_elements scoping x.name a.kind i g
@@ -120,7 +120,7 @@ module _ {M N G S1 S2 : Type 0} (limits : Limits) (name : N → M) (scoping : Sc
       (array_of_item limits second x a at item o s2 done))
       (whole_item-renamed limits name scoping first second R sim item (Some []) g s1 s2 r (f.0 []))
       (array_of_item-alike x a at item (whole_item limits first (renamed_item name item) s1) g f d h k
-      (λ o. (s1, s2, r, sym (whole_item-renamed limits name scoping first second R sim item (Some []) g s1 s2 r (f.0 [])) ∙ o)) s1 s2 done r)
+      (s1, s2, r, sym (whole_item-renamed limits name scoping first second R sim item (Some []) g s1 s2 r (f.0 []))) s1 s2 done r)
   array_of_init-alike x a at (CreateInit c) g f d h k s1 s2 done r =
       declaring-alike x (array_with a (filled (default a.kind) a.ranges)) (ArrayForm a.over) g refl d
       (h (filled (default a.kind) a.ranges) (filled-held x (default a.kind) a.ranges k)) s1 s2 done r

@@ -374,8 +374,8 @@ module _ (names : ℕ → Text) where
     suited_new = λ x item v g s1 s2 r f d e. tt;
     suited_element = λ x item v g s1 s2 r f e. tt;
     suited_once = λ x item v g s1 s2 r f w e. tt;
-    suited_turn = λ x item t v g s1 s2 r f w e. tt;
-    suited_initial = λ x over item t v g s1 s2 r f d e. tt;
+    suited_turn = λ x item t v g s1 s2 r f w p e. tt;
+    suited_initial = λ x over item t v g s1 s2 r f d p e. tt;
     changed = λ x op t old w g s1 s2 r f e h. tt;
     turned = λ x item over g s1 s2 r f e k d lt. tt;
     spanned = λ x from items v g s1 s2 r f d e. tt;

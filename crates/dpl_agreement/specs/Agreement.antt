@@ -44,9 +44,13 @@ WasArray {S1 = S1} {S2 = S2} second R x g =
 abbrev pub WasPlain : {N G S1 S2 : Type 0} → Environment N S2 → (G → S1 → S2 → Type 0) → N → G → Type 0
 WasPlain {S1 = S1} {S2 = S2} second R x g = (s1 : S1) × (s2 : S2) × R g s1 s2 × (array_domain (second.get x s2) ≡ None)
 
--- in a state before, a right side had no whole array in it
-abbrev pub WasOnce : {N G S1 S2 : Type 0} → Limits → Environment N S2 → (G → S1 → S2 → Type 0) → ItemTree N → G → Type 0
-WasOnce {S1 = S1} {S2 = S2} limits second R item g = (s1 : S1) × (s2 : S2) × R g s1 s2 × (whole_item limits second item s2 ≡ None)
+-- in a state before, the first whole array in a right side had this domain, or there was none in it
+abbrev pub HadWhole : {N G S1 S2 : Type 0} → Limits → Environment N S2 → (G → S1 → S2 → Type 0) → ItemTree N → G → Option (List TextRange) → Type 0
+HadWhole {S1 = S1} {S2 = S2} limits second R item g o = (s1 : S1) × (s2 : S2) × R g s1 s2 × (whole_item limits second item s2 ≡ o)
+
+-- such a right side is evaluated in each turn
+abbrev pub WasPromoted : {N G S1 S2 : Type 0} → Limits → Environment N S2 → (G → S1 → S2 → Type 0) → ItemTree N → G → Type 0
+WasPromoted limits second R item g = (rs : List TextRange) × HadWhole limits second R item g (Some rs)
 
 -- One law for each field of the record of variables, and some more by which a name holds what it may: an environment
 -- that keeps variables of each kind in its own way need agree only where each holds a value of its kind. R relates the
@@ -94,12 +98,12 @@ pub record Simulates {M N G S1 S2 : Type 0} (limits : Limits) (name : N → M) (
       → MayBe limits second item s2 v → scoping.holds x (Plain v)
   -- the elements of a whole array too: the value of a right side without a whole array, which is evaluated once; that of
   -- another in a turn, assigned and as an initial value; and what an assignment makes of an element
-  pub suited_once : (x : N) (item : ItemTree N) (v : Value) (g : G) (s1 : S1) (s2 : S2) → R g s1 s2 → scoping.suits x item g → WasOnce limits second R item g
+  pub suited_once : (x : N) (item : ItemTree N) (v : Value) (g : G) (s1 : S1) (s2 : S2) → R g s1 s2 → scoping.suits x item g → HadWhole limits second R item g None
       → MayBe limits second item s2 v → scoping.holds x (Plain v)
   pub suited_turn : (x : N) (item : ItemTree N) (t : Index) (v : Value) (g : G) (s1 : S1) (s2 : S2) → R g s1 s2 → scoping.suits x item g → WasArray second R x g
-      → item_of limits second item (Some t) s2 ≡ Ok v → scoping.holds x (Plain v)
+      → WasPromoted limits second R item g → item_of limits second item (Some t) s2 ≡ Ok v → scoping.holds x (Plain v)
   pub suited_initial : (x : N) (over : Option N) (item : ItemTree N) (t : Index) (v : Value) (g : G) (s1 : S1) (s2 : S2) → R g s1 s2 → scoping.suits x item g → scoping.declares x (ArrayForm over) g
-      → item_of limits second item (Some t) s2 ≡ Ok v → scoping.holds x (Plain v)
+      → WasPromoted limits second R item g → item_of limits second item (Some t) s2 ≡ Ok v → scoping.holds x (Plain v)
   pub changed : (x : N) (op : Assign) (t : Index) (old w : Value) (g : G) (s1 : S1) (s2 : S2) → R g s1 s2 → scoping.assigns x op g
       → second.element x t s2 ≡ Some old → scoping.holds x (Plain w) → scoping.holds x (Plain (assigned op None old w))
   pub turned : (x : N) (item : ItemTree N) (over : Value) (g : G) (s1 : S1) (s2 : S2) → R g s1 s2 → scoping.turns x item g

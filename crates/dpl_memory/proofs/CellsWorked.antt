@@ -1,7 +1,7 @@
 -- Cells, the number of `here`, and what is to come, in a memory.
 -- Rows: an operation outside tasks and in one, the cells at a coforall and what its history leaves of them, and another locale; which cells
--- are in sight; and sample programs, which write from a memory what they mean.
-use Rattle.std.proofs.Common.{◌≡◌, ℕ, List, [], ◌∷◌, pos, refl, ◌∙◌, rules, Some, None}
+-- are in sight; sample programs, which write from a memory what they mean; and right sides that read a cell, and fit or don't.
+use Rattle.std.proofs.Common.{◌≡◌, ℕ, List, [], ◌∷◌, pos, true, refl, subst, ◌∙◌, rules, Some, None}
 use Rattle.std.specs.Prelude.{codes, bytes_eq, if◌then◌else◌}
 use Rattle.std.specs.Int.{int_wrap}
 use Rattle.std.specs.Fmt.{digits}
@@ -9,12 +9,13 @@ use Rattle.dpl_sets.specs.Members.{members}
 use Rattle.dpl_sets.specs.Indices.{indices}
 use Rattle.dpl_history.specs.declared.cell.CellState.{CellState}
 use Rattle.dpl_history.specs.declared.cell.CellState.TheVariants.{Empty, Full}
-use Rattle.dpl_history.specs.declared.cell.CellOp.TheVariants.{ReadFE, WriteEF}
+use Rattle.dpl_history.specs.declared.cell.CellOp.TheVariants.{ReadFE, ReadFF, WriteEF}
 use Rattle.dpl_history.specs.declared.cell.Reply.TheVariants.{Value, Done}
 use Rattle.dpl_history.specs.declared.history.Event.{Event}
 use Rattle.dpl_history.specs.Histories.{event}
 use Rattle.dpl_language.specs.Environment.{CellOf, Replied, Unanswered}
-use Rattle.dpl_language.specs.Tree.{IntKind, BoolKind, Number, RangeItem, Closed, NoStride, ProgramTree}
+use Rattle.dpl_language.specs.Tree.{Kind, IntKind, BoolKind, Number, Named, Postfixed, Post, NoPosts, Dotted, CellRead, ReadFFWord, ItemTree, One, RangeItem, Closed, NoStride, ProgramTree}
+use Rattle.dpl_language.specs.Values.{Truth}
 use Rattle.dpl_language.specs.Names.{Text}
 use Rattle.dpl_language.specs.Program.{written}
 use Rattle.dpl_language.proofs.Says.{limits, writes, one_history}
@@ -24,8 +25,8 @@ use Rattle.dpl_agreement.specs.Renamed.{renamed_program}
 use Rattle.dpl_agreement.specs.Scopes.{PlainForm, CellForm, fits_all}
 use Rattle.dpl_agreement.proofs.ProgramsAlike.{run_from}
 use Rattle.dpl_words.specs.Words.{IntLeaf, TruthLeaf, LocaleLeaf}
-use Rattle.dpl_memory.specs.Memory.{PlainKind, CellKind, Variable, variable, int_leaf, truth_leaf, Memory, with_cell, in_memory}
-use Rattle.dpl_memory.specs.Resolved.{Bound, Sighted, Sight, Seen, first_seen, sighted, no_shape, without_frame, cells_in, before as cells_before, Start, resolving, first_memory}
+use Rattle.dpl_memory.specs.Memory.{VariableKind, PlainKind, ArrayKind, CellKind, Variable, variable, int_leaf, truth_leaf, Memory, with_cell, in_memory}
+use Rattle.dpl_memory.specs.Resolved.{Bound, Sighted, Sight, Seen, first_seen, sighted, no_shape, without_frame, cells_in, before as cells_before, IsElement, IsOf, GivesReply, Suits, SuitsElement, Start, resolving, first_memory}
 use Rattle.dpl_memory.proofs.MemoryAgrees.{written-memory}
 use Rattle.dpl_memory.proofs.Suiting.{Suits-range_item, SuitsTurns-ranges}
 
@@ -185,3 +186,48 @@ no_reply_left_fits = ( -- var c: sync int;
 -- so it means what it writes from a memory
 no_reply_left_means : writes no_reply_left ≡ codes "! F7 at 1:40 in task 0\n"
 no_reply_left_means = written-memory (start []) (limits 16777216 1) no_reply_left_resolved [] refl no_reply_left_fits ∙ no_reply_left_writes
+
+-- ANOTHER FITS, whose right side reads a cell: var c: sync bool = true; const b = c.readFF(); writeln(b, c.readFE());
+abbrev with_truths : Text → Bound
+with_truths x = record { text = x; variable = named_in ((codes "c", variable (CellKind BoolKind) 0) ∷ (codes "b", truth_leaf 1) ∷ []) x; shape = no_shape }
+
+abbrev truth_cell_resolved : ProgramTree Bound
+truth_cell_resolved = renamed_program with_truths truth_cell
+
+truth_cell_fits : fits_all (resolving (start [])) truth_cell_resolved.stmts first_seen
+truth_cell_fits = ( -- var c: sync bool = true;
+  (tt, (tt, tt), (record { unused = search rules; within = search rules; along = tt }, (BoolKind, refl), refl), tt, (λ c. refl), (tt, tt)),
+  ( -- const b = c.readFF();
+    (
+      tt,
+      ((refl, (tt, tt)), (refl, (refl, (BoolKind, refl), refl, refl))),
+      (record { unused = search rules; within = search rules; along = tt }, λ e. e),
+      tt,
+      (BoolKind, refl, λ v h. (h, λ p. tt)),
+      (tt, tt),
+    ),
+    ( -- writeln(b, c.readFE());
+      ((refl, tt), λ t. refl, (((refl, (tt, tt)), (refl, (refl, (BoolKind, refl), refl, refl))), tt, tt)),
+      tt,
+    ),
+  ),
+)
+
+truth_cell_means : writes truth_cell ≡ codes "truetrue\n"
+truth_cell_means = written-memory (start []) (limits 16777216 1) truth_cell_resolved [] refl truth_cell_fits ∙ truth_cell_writes
+
+-- WHAT DOESN'T FIT: c.readFF() of a truth value for an int, be it a variable's or an element's
+abbrev truth_read : ItemTree Bound
+truth_read = One (Postfixed (Named (record { at = at 1 1; name = with_truths (codes "c") })) (Post (Dotted (at 1 2) (CellRead (at 1 3) ReadFFWord (at 1 9) (at 1 10))) NoPosts))
+
+truth_for_an_int : (kind : VariableKind) → (IsOf kind (Truth true) → ⊥) → GivesReply kind no_shape (record { name = record { at = at 1 1; name = with_truths (codes "c") }; op = ReadFF }) → ⊥
+truth_for_an_int kind none f = none (f.2 (Truth true) (subst (λ k. IsElement k (Truth true)) (kind_same f.0 f.1) (true, refl))).0
+  where
+    kind_same : (k : Kind) → CellKind BoolKind ≡ CellKind k → BoolKind ≡ k
+    kind_same k e = cc
+
+truth_is_no_int : Suits (PlainKind IntLeaf) no_shape truth_read first_seen → ⊥
+truth_is_no_int = truth_for_an_int (PlainKind IntLeaf) (λ h. cc)
+
+truth_is_no_element : SuitsElement (ArrayKind IntKind) no_shape truth_read first_seen → ⊥
+truth_is_no_element = truth_for_an_int (ArrayKind IntKind) (λ h. cc)

@@ -1,7 +1,7 @@
 -- A resolved program runs in a memory as it runs by names.
 -- Each step of the one is a step of the other where a name has the kind and the slot of its innermost declaration and holds its kind.
-use Rattle.std.proofs.Common.{◌≡◌, ◌≢◌, ℕ, ◌<◌, ℤ, ◌++◌, pos, true, List, [], ◌∷◌, refl, sym, ap, ◌∙◌, subst, Some, None, Option, map, length, drop}
-use Rattle.std.specs.Prelude.{All, Ok, unwrap_or, option_map, bytes_eq, if◌then◌else◌, get_or, set}
+use Rattle.std.proofs.Common.{◌≡◌, ◌≢◌, ℕ, ◌<◌, ℤ, ◌++◌, pos, true, false, List, [], ◌∷◌, refl, sym, ap, ◌∙◌, subst, Some, None, Option, map, length, drop}
+use Rattle.std.specs.Prelude.{All, Ok, unwrap_or, option_map, bytes_eq, int_lt, if◌then◌else◌, get_or, set}
 use Rattle.std.specs.Option.{option_or}
 use Rattle.std.proofs.lemmas.Slice.Eq.{bytes_eq-Decides}
 use Rattle.std.proofs.lemmas.List.{get_or-set_same, get_or-set_other, length-set, length-replicate, map-append, append-nil, append_assoc}
@@ -10,18 +10,20 @@ use Rattle.dpl_history.specs.declared.cell.CellState.{CellState}
 use Rattle.dpl_history.specs.declared.cell.CellState.TheVariants.{Empty}
 use Rattle.dpl_history.specs.declared.cell.CellOp.{CellOp}
 use Rattle.dpl_history.specs.declared.cell.Reply.{Reply}
+use Rattle.dpl_history.specs.declared.cell.Reply.TheVariants.{Value as Given, Done as NoValue}
 use Rattle.dpl_history.specs.declared.history.Event.{Event}
 use Rattle.dpl_history.specs.Cells.{effect}
 use Rattle.dpl_history.specs.Histories.{after}
 use Rattle.dpl_sets.specs.TextRanges.{TextRange}
-use Rattle.dpl_language.specs.Tree.{Op, Kind, Assign, Set, SetAdd, SetSubtract, SetMultiply, SetDivide, SetRemainder, SetReduce, ItemTree, Stmts, ProgramTree}
-use Rattle.dpl_language.specs.Values.{Value, Int, Range, Locale, Domain, Tuple, Index, index_of, ranges_in, array_domain, is_domain, is_distributed, kept_number}
+use Rattle.dpl_language.specs.Tree.{Op, Kind, IntKind, BoolKind, Assign, Set, SetAdd, SetSubtract, SetMultiply, SetDivide, SetRemainder, SetReduce, ItemTree, Stmts, ProgramTree}
+use Rattle.dpl_language.specs.Values.{Value, Int, Range, Locale, Domain, Tuple, Index, index_of, ranges_in, array_domain, is_domain, is_distributed, cell_kind, kept_number}
 use Rattle.dpl_language.specs.Distributions.{Root, no_root}
 use Rattle.dpl_language.specs.Arithmetic.{assigned}
 use Rattle.dpl_language.specs.Outcome.{Deeds, no_deeds, Outcome, Done, Stop, Waits}
 use Rattle.dpl_language.specs.Environment.{Content, Plain, ArrayOf, CellOf, Replied, Unanswered, Limits}
-use Rattle.dpl_language.specs.Phrases.{item_read}
-use Rattle.dpl_language.specs.Expressions.{item_of}
+use Rattle.dpl_language.specs.Phrases.{ReadTree, item_read}
+use Rattle.dpl_language.specs.Expressions.{item_of, whole_item}
+use Rattle.dpl_language.specs.Assignments.{reply_value}
 use Rattle.dpl_language.specs.Statements.{exec_all}
 use Rattle.dpl_language.specs.Names.{Text, Opened, Declared, Store, State, paired, innermost as root_of_name, look_up, change_in, element_at, with_element, without_innermost, value_in as name_value, update_in, element_in, put_in, set_cell, state_in, store_cells, cell_number, with_cells as with_cells_named, effect_on, call_in, redomain_in, arrays_over as named_arrays, by_name}
 use Rattle.dpl_language.specs.Program.{first_state, meaning, top_level, own_entry, own_frame, left, written}
@@ -37,10 +39,11 @@ use Rattle.dpl_agreement.proofs.Through.{through, item_of-through_at, item_of-th
 use Rattle.dpl_agreement.proofs.ProgramsAlike.{run_from}
 use Rattle.dpl_agreement.proofs.Agreement.{exec_all-alike}
 use Rattle.dpl_sound.specs.Typed.{AreRanked}
+use Rattle.dpl_sound.proofs.Wholes.{item_read-whole}
 use Rattle.dpl_words.specs.Words.{IntLeaf, TruthLeaf, RangeLeaf, LocaleLeaf, no_range, is_true, intent_at, set_at, given_as}
 use Rattle.dpl_words.proofs.OfKind.{given-kind}
 use Rattle.dpl_memory.specs.Memory.{VariableKind, PlainKind, DomainKind, TupleKind, ArrayKind, CellKind, Held, whole_held, Memory, is_among, redomained_from, no_domain, no_tuple, no_array, value_in, with_value_in, cell_at, with_cell, cells_at, with_cells, settled_in, with_replies, effect_in, called_by, array_at, held_with, Coming, element_in as element_in_memory, with_element_in, declared_array, root_in, with_root, undealt, renewed, anew, element_as, intents_by_slot, redomained_in, is_some_array, intended, given_in, in_memory}
-use Rattle.dpl_memory.specs.Resolved.{Bound, Sighted, Sight, known_in, innermost, text_of, variable_of, written_over, if_domain, domain_among, over_of, sighted, arrays_over, names_in_order, left_in, entry_in, declared_in, frame_in, own_store, store_in, content_in, IsUnused, AreUnused, bind, without_frame, Seen, first_seen, cells_in, before, HasCells, AreKnown, CallResolves, IsCellOf, MaySpan, IsOf, IsWhole, HasShape, MayHold, Shape, no_shape, IsShaped, HasNoArray, GivesOnce, SuitsKind, ArraysResolve, IsNew, OverResolves as OverIsFound, Holds, kind_takes, KindCombines, IntentResolves, Resolves, MayDeclare, IsGivenAs, Start, resolving, first_memory, HasSlots, AreToCome, StandsFor}
+use Rattle.dpl_memory.specs.Resolved.{Bound, Sighted, Sight, known_in, innermost, text_of, variable_of, written_over, if_domain, domain_among, over_of, sighted, arrays_over, names_in_order, left_in, entry_in, declared_in, frame_in, own_store, store_in, content_in, IsUnused, AreUnused, bind, without_frame, Seen, first_seen, cells_in, before, HasCells, AreKnown, CallResolves, IsCellOf, MaySpan, IsOf, IsWhole, HasShape, MayHold, Shape, no_shape, IsShaped, HasNoArray, GivesOnce, SuitsKind, OrReplies, IsElement, ArraysResolve, IsNew, OverResolves as OverIsFound, Holds, kind_takes, KindCombines, IntentResolves, Resolves, MayDeclare, IsGivenAs, Start, resolving, first_memory, HasSlots, AreToCome, StandsFor}
 use Rattle.dpl_memory.proofs.Roots.{IsAsFar, as_far, far-set_in, far-element, far-array, far-redomained, far-undealt, roots-set_in, roots-element, roots-array, roots-redomained, content_in-root, slots-root, root_in-other, root_in-same, content_in-undealt, slots-undealt, words-undealt, value_in-undealt, whole-undealt, root_in-undealt_here, root_in-undealt_other, roots_at-each, set_root-each, roots_at-unused}
 use Rattle.dpl_agreement.proofs.SlotCells.{state_of, with_state, cells_of as slots_cells, with_states, state_in-spelled, set_cell-spelled, store_cells-slots, cell_number-slots, with_cells-slots}
 use Rattle.dpl_memory.proofs.Cells.{cell_slots, cell_slots-in_slots, cells-slots, number-slots, cell-put, cells-other, cells-value, cell-shape, cells-slotted, length-with_cells, replaced, are_within}
@@ -337,6 +340,13 @@ given-held DomainKind shape slot s v e = cc
 given-held TupleKind shape slot s v e = cc
 given-held (ArrayKind k) shape slot s v e = cc
 given-held (CellKind k) shape slot s v e = cc
+
+-- the value of a reply is one of its cell's kind
+reply-element : (k : Kind) (a : Reply) → IsElement k (reply_value k a)
+reply-element IntKind (Given z) = (z, refl)
+reply-element BoolKind (Given z) = (int_lt (pos 0) z, refl)
+reply-element IntKind NoValue = (pos 0, refl)
+reply-element BoolKind NoValue = (false, refl)
 
 -- the arrays that stand with a domain are those over it
 arrays-known : (k : VariableKind) (x : Bound) (g : Seen) → k ≡ DomainKind → ArraysResolve k x g → x.variable.along ≡ arrays_over x.variable.slot g.frames
@@ -884,11 +894,21 @@ module _ (start : Start) where
   }
 
   -- ALL TOGETHER
-  -- a right side that is no cell read is evaluated
-  evaluated_once : (limits : Limits) (item : ItemTree Bound) (v : Value) (s : Memory) → item_read item ≡ None → MayBe limits (through variable_of in_memory) item s v
-      → item_of limits in_memory (renamed_item variable_of item) None s ≡ Ok v
-  evaluated_once limits item v s f e =
-      sym (item_of-through limits variable_of in_memory item s) ∙ subst (λ o. MayRead limits (through variable_of in_memory) o item s v) f e
+  -- a right side that reads no cell is evaluated; another has a value of its cell's kind
+  suited_by : (limits : Limits) (kind : VariableKind) (shape : Shape) (given : Type 0) (item : ItemTree Bound) (v : Value) (s : Memory) (o : Option (ReadTree Bound))
+      → OrReplies kind shape given o → MayRead limits (through variable_of in_memory) o item s v
+      → (given → item_of limits in_memory (renamed_item variable_of item) None s ≡ Ok v → MayHold kind shape v) → MayHold kind shape v
+  suited_by limits kind shape given item v s None f e p = p f (sym (item_of-through limits variable_of in_memory item s) ∙ e)
+  suited_by limits kind shape given item v s (Some r) f e p =
+      let cell : cell_kind (value_in r.name.name.variable.kind r.name.name.variable.slot s) ≡ f.0 = ap (λ k. cell_kind (value_in k r.name.name.variable.slot s)) f.1 in
+      f.2 v (subst (IsElement f.0) (ap (λ k. reply_value k e.0) (sym cell) ∙ sym e.1) (reply-element f.0 e.0))
+
+  -- one with a whole array in it reads no cell
+  promoted_by : (limits : Limits) (kind : VariableKind) (shape : Shape) (given : Type 0) (item : ItemTree Bound) (s : Memory) (rs : List TextRange) (o : Option (ReadTree Bound)) → item_read item ≡ o
+      → OrReplies kind shape given o → whole_item limits (through variable_of in_memory) item s ≡ Some rs → given
+  promoted_by limits kind shape given item s rs None read f whole = f
+  promoted_by limits kind shape given item s rs (Some r) read f whole =
+      let none = item_read-whole limits (through variable_of in_memory) s item r read in absurd cc
 
   pub memory_simulates : (limits : Limits) → Simulates limits text_of (resolving start) by_name (through variable_of in_memory) (Kept start)
   memory_simulates limits = record {
@@ -906,14 +926,25 @@ module _ (start : Start) where
     deals = λ x root g s1 s2 r f d. deal_alike x root g s1 s2 r f d;
     gives = λ x g s1 s2 r f. ap (paired x.text) r.texts ∙ given-alike x.variable.kind x start s2 r.words f;
     suited = λ x item v g s1 s2 r f w e.
-        once-held x.variable.kind x.shape item g (value_in-plain x.variable.kind x.variable.slot w.1 w.3) f.1 limits s2 (shaped_sight g s1 s2 r) v (evaluated_once limits item v s2 f.0 e);
-    suited_new = λ x item v g s1 s2 r f d e. once-held x.variable.kind x.shape item g d.1 f.1 limits s2 (shaped_sight g s1 s2 r) v (evaluated_once limits item v s2 f.0 e);
-    suited_element = λ x item v g s1 s2 r f e. f.1 limits s2 (shaped_sight g s1 s2 r) v (evaluated_once limits item v s2 f.0 e);
-    suited_turn = λ x item t v g s1 s2 r f w e.
-        turn-held limits x.variable.kind x.shape item g s2 t v (shaped_sight g s1 s2 r) (value_in-array x.variable.kind x.variable.slot w.1 w.3.0 w.3.1) f.1 (sym (item_of-through_at limits variable_of in_memory item (Some t) s2) ∙ e);
-    suited_initial = λ x over item t v g s1 s2 r f d e. turn-held limits x.variable.kind x.shape item g s2 t v (shaped_sight g s1 s2 r) d.1 f.1 (sym (item_of-through_at limits variable_of in_memory item (Some t) s2) ∙ e);
+        suited_by limits x.variable.kind x.shape (SuitsKind x.variable.kind x.shape item g) item v s2 (item_read item) f e
+        (λ given. once-held x.variable.kind x.shape item g (value_in-plain x.variable.kind x.variable.slot w.1 w.3) given limits s2 (shaped_sight g s1 s2 r) v);
+    suited_new = λ x item v g s1 s2 r f d e.
+        suited_by limits x.variable.kind x.shape (SuitsKind x.variable.kind x.shape item g) item v s2 (item_read item) f e
+        (λ given. once-held x.variable.kind x.shape item g d.1 given limits s2 (shaped_sight g s1 s2 r) v);
+    suited_element = λ x item v g s1 s2 r f e.
+        suited_by limits x.variable.kind x.shape (GivesOnce x.variable.kind x.shape item g) item v s2 (item_read item) f e
+        (λ given. given limits s2 (shaped_sight g s1 s2 r) v);
+    suited_turn = λ x item t v g s1 s2 r f w p e.
+        turn-held limits x.variable.kind x.shape item g s2 t v (shaped_sight g s1 s2 r) (value_in-array x.variable.kind x.variable.slot w.1 w.3.0 w.3.1)
+        (promoted_by limits x.variable.kind x.shape (SuitsKind x.variable.kind x.shape item g) item p.1.1 p.0 (item_read item) refl f p.1.3)
+        (sym (item_of-through_at limits variable_of in_memory item (Some t) s2) ∙ e);
+    suited_initial = λ x over item t v g s1 s2 r f d p e.
+        turn-held limits x.variable.kind x.shape item g s2 t v (shaped_sight g s1 s2 r) d.1
+        (promoted_by limits x.variable.kind x.shape (SuitsKind x.variable.kind x.shape item g) item p.1.1 p.0 (item_read item) refl f p.1.3)
+        (sym (item_of-through_at limits variable_of in_memory item (Some t) s2) ∙ e);
     suited_once = λ x item v g s1 s2 r f w e.
-        scalar-held x.variable.kind x.shape item g (limits, w.1, sym (whole_item-through limits variable_of in_memory item w.1) ∙ w.3) f.1 limits s2 (shaped_sight g s1 s2 r) v (evaluated_once limits item v s2 f.0 e);
+        suited_by limits x.variable.kind x.shape (SuitsKind x.variable.kind x.shape item g) item v s2 (item_read item) f e
+        (λ given. scalar-held x.variable.kind x.shape item g (limits, w.1, sym (whole_item-through limits variable_of in_memory item w.1) ∙ w.3) given limits s2 (shaped_sight g s1 s2 r) v);
     changed = λ x op t old w g s1 s2 r f e h. changed-held x.variable.kind x.shape op x.variable.slot t s2 old w e f.1 h.0;
     turned = λ x item over g s1 s2 r f e. f limits s2 (shaped_sight g s1 s2 r) over (sym (item_of-through limits variable_of in_memory item s2) ∙ e);
     spanned = λ x from items v g s1 s2 r f d e. f limits s2 (shaped_sight g s1 s2 r) from v (sym (domain_of-through limits variable_of in_memory from items s2) ∙ e);

@@ -71,7 +71,7 @@ placed x column = record { at = at 1 column; name = resolved x }
 
 -- b reduce= j < 4;
 below_four : (g : Seen) → Suits (PlainKind TruthLeaf) no_shape (One (Chain (Named (placed (codes "j") 135)) (Link (at 1 137) Less (Number (at 1 139) (pos 4)) NoLinks))) g
-below_four g = (refl, λ limits s shaped v e. ((int_lt (get_or s.words.numbers 3 (pos 0)) (pos 4), cc), λ p. tt))
+below_four g limits s shaped v e = ((int_lt (get_or s.words.numbers 3 (pos 0)) (pos 4), cc), λ p. tt)
 
 -- what is in sight: s, then b, then r; in the loop i, and in the forall j and its reduce variables
 abbrev plainly : List ℕ → Sighted
@@ -158,7 +158,7 @@ configured_writes = refl
 -- WHAT DOESN'T FIT: a number for a truth value
 number_is_no_truth : (at : Place) (n : ℤ) → Suits (PlainKind TruthLeaf) no_shape (One (Number at n)) first_seen → ⊥
 number_is_no_truth at n f =
-    let of_kind = f.1 (limits 1 1) (first_memory one_slot) (λ x e. cc) (Int n) refl in
+    let of_kind = f (limits 1 1) (first_memory one_slot) (λ x e. cc) (Int n) refl in
     absurd (is_no_truth of_kind.0.0 of_kind.0.1)
   where
     is_no_truth : (b : Bool) → Int n ≡ Truth b → ⊥

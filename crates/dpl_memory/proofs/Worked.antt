@@ -117,7 +117,7 @@ one_range column low high =
 
 -- the domain of one range without a stride
 Suits-domain : (g : Seen) (from : Place) (column low high : ℕ) (upto : Place) → Suits DomainKind line (One (DomainLiteral from (one_range column low high) upto)) g
-Suits-domain g from column low high upto = (refl, λ limits s shaped v e. by_bounds (bounded (at 1 (column + 1)) Closed (pos low) (pos high)) (λ r. bounded-plain (at 1 (column + 1)) Closed (pos low) (pos high) r) v e)
+Suits-domain g from column low high upto limits s shaped v e = by_bounds (bounded (at 1 (column + 1)) Closed (pos low) (pos high)) (λ r. bounded-plain (at 1 (column + 1)) Closed (pos low) (pos high) r) v e
   where
     by_size : (r : TextRange) (v : Value) → IsPlain r → sized from (r ∷ []) ≡ Ok v → MayHold DomainKind line v
     by_size r v plain =
@@ -130,7 +130,7 @@ Suits-domain g from column low high upto = (refl, λ limits s shaped v e. by_bou
     by_bounds (Err f) plain v e = cc
 
 Suits-element : (g : Seen) (at : Place) (n : ℤ) → Suits (ArrayKind IntKind) line (One (Number at n)) g
-Suits-element g at n = (refl, (λ none limits s shaped v e. ((n, cc), λ p. absurd (p tt)), λ limits s shaped t v e. (n, cc)))
+Suits-element g at n = (λ none limits s shaped v e. ((n, cc), λ p. absurd (p tt)), λ limits s shaped t v e. (n, cc))
 
 -- the domain of a name alone is what stands in its slot, and of its shape
 sized-ranges : (from : Place) (rs : List TextRange) (v : Value) → sized from rs ≡ Ok v → rs ≡ ranges_in v
@@ -156,7 +156,7 @@ abbrev a_array : Placed Bound
 a_array = record { at = at 1 9; name = record { text = codes "A"; variable = variable (ArrayKind IntKind) 1; shape = line } }
 
 Suits-array : Suits (ArrayKind IntKind) line (One (Named a_array)) first_seen
-Suits-array = (refl, ((λ none. absurd (let f : Some (array_at 1 none.1).ranges ≡ None = none.2 in cc)), λ limits s shaped t v. by (held_at t (array_at 1 s)) v))
+Suits-array = ((λ none. absurd (let f : Some (array_at 1 none.1).ranges ≡ None = none.2 in cc)), λ limits s shaped t v. by (held_at t (array_at 1 s)) v)
   where
     by : (w : Option ℤ) (v : Value) → found (at 1 9) (option_map (element_as IntKind) w) ≡ Ok v → (n : ℤ) × (v ≡ Int n)
     by None v e = cc
@@ -164,7 +164,7 @@ Suits-array = (refl, ((λ none. absurd (let f : Some (array_at 1 none.1).ranges 
 
 array_is_no_element : SuitsElement (ArrayKind IntKind) line (One (Named a_array)) first_seen → ⊥
 array_is_no_element f =
-    let of_kind = f.1 (limits 1 1) (first_memory (start 6)) (λ x e. cc) (Array IntKind (no_array).ranges) refl in
+    let of_kind = f (limits 1 1) (first_memory (start 6)) (λ x e. cc) (Array IntKind (no_array).ranges) refl in
     absurd (is_no_int of_kind.0.0 of_kind.0.1)
   where
     is_no_int : (n : ℤ) → Array IntKind (no_array).ranges ≡ Int n → ⊥

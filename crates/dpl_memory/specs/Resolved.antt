@@ -12,7 +12,7 @@ use Rattle.dpl_language.specs.Distributions.{no_root}
 use Rattle.dpl_language.specs.Ranges.{indices_in, loop_ranges, loop_value}
 use Rattle.dpl_language.specs.Outcome.{Outcome, Done, Stop, Waits}
 use Rattle.dpl_language.specs.Environment.{Content, Plain, ArrayOf, CellOf, Limits}
-use Rattle.dpl_language.specs.Phrases.{item_read}
+use Rattle.dpl_language.specs.Phrases.{ReadTree, item_read}
 use Rattle.dpl_language.specs.Expressions.{item_of, domain_of, whole_item}
 use Rattle.dpl_language.specs.Names.{Text, Entry, Frame, Opened, Declared, Store, State, paired}
 use Rattle.dpl_language.specs.Program.{own_entry}
@@ -292,8 +292,8 @@ abbrev pub HasNoArray : ItemTree Bound → Type 0
 HasNoArray item =
     (limits : Limits) × (s : Memory) × (whole_item limits in_memory (renamed_item variable_of item) s ≡ None)
 
--- A right side that is no cell read has a value of the kind. A whole array's may be a whole array by its name, as in `B = A;`,
--- which is evaluated in each turn; only one without a whole array is evaluated once.
+-- A right side has a value of the kind. A whole array's may be a whole array by its name, as in `B = A;`, which is evaluated in
+-- each turn; only one without a whole array is evaluated once.
 abbrev pub SuitsKind : VariableKind → Shape → ItemTree Bound → Seen → Type 0
 SuitsKind (PlainKind k) shape item g = GivesOnce (PlainKind k) shape item g
 SuitsKind DomainKind shape item g = GivesOnce DomainKind shape item g
@@ -301,12 +301,22 @@ SuitsKind TupleKind shape item g = GivesOnce TupleKind shape item g
 SuitsKind (ArrayKind k) shape item g = (HasNoArray item → GivesOnce (ArrayKind k) shape item g) × GivesTurns k item g
 SuitsKind (CellKind k) shape item g = GivesOnce (CellKind k) shape item g
 
+-- A right side that reads a cell, as in `const b = c.readFF();`, has what the cell replies: each value of the cell's kind is one that
+-- the variable may be given. Of one that reads none what is given holds.
+abbrev pub GivesReply : VariableKind → Shape → ReadTree Bound → Type 0
+GivesReply kind shape r =
+    (k : Kind) × (r.name.name.variable.kind ≡ CellKind k) × ((v : Value) → IsElement k v → MayHold kind shape v)
+
+abbrev pub OrReplies : VariableKind → Shape → Type 0 → Option (ReadTree Bound) → Type 0
+OrReplies kind shape given None = given
+OrReplies kind shape given (Some r) = GivesReply kind shape r
+
 abbrev pub Suits : VariableKind → Shape → ItemTree Bound → Seen → Type 0
-Suits kind shape item g = (item_read item ≡ None) × SuitsKind kind shape item g
+Suits kind shape item g = OrReplies kind shape (SuitsKind kind shape item g) (item_read item)
 
 -- an element's right side is evaluated once
 abbrev pub SuitsElement : VariableKind → Shape → ItemTree Bound → Seen → Type 0
-SuitsElement kind shape item g = (item_read item ≡ None) × GivesOnce kind shape item g
+SuitsElement kind shape item g = OrReplies kind shape (GivesOnce kind shape item g) (item_read item)
 
 -- a loop's variable may be given the value of each turn
 abbrev pub SuitsTurns : VariableKind → Shape → ItemTree Bound → Seen → Type 0

@@ -8,7 +8,7 @@ use Rattle.dpl_apart.specs.Memories.{Changes, MayBeApart}
 use Rattle.dpl_turns.specs.Bodies.{own_numbers, own_tuples, KeepsApart}
 use Rattle.dpl_turns.specs.Typed.{own_of}
 use Rattle.dpl_turns.proofs.Typed.{names-apart}
-use Rattle.dpl_elements.specs.Turns.{index_turn}
+use Rattle.dpl_steps.specs.Contexts.{index_turn}
 
 module _ (limits : Limits) (rank : ℕ) (names : Names) (written : List ℕ) (reduced : List (ℕ × Op)) (body : Stmts Variable) where
   abbrev changes : List ℕ → List ℕ → Changes

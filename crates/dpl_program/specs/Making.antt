@@ -17,9 +17,7 @@ use Rattle.dpl_loop.specs.Entries.{MayRefuse}
 use Rattle.dpl_readings.specs.Readings.{steps_in}
 use Rattle.dpl_frame.specs.Dealt.{dealt_by}
 use Rattle.dpl_readings.specs.Written.{written_among}
-use Rattle.dpl_elements.specs.declared.whole.WholeTurns.{WholeTurns}
-use Rattle.dpl_elements.specs.Wholes.{whole_turn}
-use Rattle.dpl_elements.specs.Turns.{index_turn, intended_turns}
+use Rattle.dpl_steps.specs.Contexts.{WholeTurns, whole_turn, index_turn, intended_turns}
 use Rattle.dpl_program.specs.declared.forall.Forall.{Forall}
 
 -- what a forall does; and which of its entries a gate may refuse

@@ -4,11 +4,10 @@
 
 ghost use Rattle.dpl_standing.specs.Standing.{InTurn};
 ghost use Rattle.dpl_readings.specs.Readings.{steps_in};
-ghost use Rattle.dpl_elements.specs.Turns.{index_turn};
+ghost use Rattle.dpl_steps.specs.Contexts.{index_turn};
 
 use dpl_dependence::{are_independent, are_own};
 use dpl_domain::Index;
-use dpl_elements::{Crew, WholeTurns};
 use dpl_frame::{Alarm, Arrays, DomainWord, Frame, Truth, Turn};
 use dpl_loop::{Apart, Gate, Row, RunStop, Turns, forall_here};
 use dpl_map::Map;
@@ -16,8 +15,7 @@ use dpl_nodes::{
     Argument, DomainExpr, IntFold, Intent, Names, PromotedInt, PromotedTruth, RangeExpr, Spot,
     Step, TruthFold,
 };
-use dpl_steps::{Context, bind, make_row, run};
-use dpl_values::Team;
+use dpl_steps::{Context, Crew, Team, WholeTurns, bind, make_row, run};
 use std::marker::PhantomData;
 
 // In a turn of a forall, over frames with any arrays.

@@ -15,16 +15,14 @@ ghost use Rattle.dpl_contents.specs.Range.{range_word};
 ghost use Rattle.dpl_loop.specs.Runs.{RunsTo, having_printed};
 ghost use Rattle.dpl_loop.specs.Entries.{MayRefuse, MayRefuseSome};
 ghost use Rattle.dpl_readings.specs.Readings.{steps_in};
-ghost use Rattle.dpl_values.specs.Teams.{TellsInts, TellsTruths};
 ghost use Rattle.dpl_frame.specs.Dealt.{dealt_by};
 ghost use Rattle.dpl_readings.specs.Written.{written_among};
-ghost use Rattle.dpl_elements.specs.Turns.{index_turn, intended_turns};
+ghost use Rattle.dpl_steps.specs.Contexts.{TellsInts, TellsTruths, index_turn, intended_turns};
 ghost use Rattle.dpl_program.specs.Making.{HasMade, HasMadeWhole};
 
 use crate::body::Body;
 use crate::dealt::dealt;
 use crate::forall::{Forall, make_forall};
-use dpl_elements::{Crew, WholeTurns};
 use dpl_frame::{Alarm, Arrays, DomainWord, Frame, RangeWord, Slots, Truth, Turn};
 use dpl_loop::{Gate, RunStop, forall, forall_line};
 use dpl_map::Map;
@@ -33,8 +31,10 @@ use dpl_nodes::{
     Step, TruthFold,
 };
 use dpl_print::write;
-use dpl_steps::{Context, domain_indices, range_indices, run as run_steps};
-use dpl_values::{Team, reduced_int_by_workers, reduced_truth_by_workers};
+use dpl_steps::{
+    Context, Crew, Team, WholeTurns, domain_indices, range_indices, reduced_int_by_workers,
+    reduced_truth_by_workers, run as run_steps,
+};
 use std::sync::Wait;
 use std::thread::Threads;
 

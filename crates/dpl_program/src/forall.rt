@@ -8,7 +8,7 @@ ghost use Rattle.dpl_standing.specs.Standing.{InTurn};
 ghost use Rattle.dpl_loop.specs.Runs.{RunsTo};
 ghost use Rattle.dpl_loop.specs.Entries.{MayRefuse};
 ghost use Rattle.dpl_readings.specs.Readings.{steps_in};
-ghost use Rattle.dpl_elements.specs.Turns.{index_turn};
+ghost use Rattle.dpl_steps.specs.Contexts.{index_turn};
 ghost use Rattle.dpl_program.specs.Making.{forall_run, MayRefuseTurns};
 
 use crate::body::Body;

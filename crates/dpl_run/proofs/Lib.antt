@@ -24,3 +24,7 @@ pub mod TurnsMap
 pub mod RecordKept
 pub mod Recorded
 pub mod Dealt
+-- Maps and roots change nothing of what a program writes, and of how it ends (read MapsForgotten last).
+pub mod SeenAlike
+pub mod ButForRoots
+pub mod MapsForgotten

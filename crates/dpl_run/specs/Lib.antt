@@ -13,3 +13,5 @@ pub mod Refusing
 pub mod Entered
 pub mod Recorded
 pub mod Dealing
+-- A program without its maps, and variables without roots.
+pub mod Unmapped

@@ -22,9 +22,9 @@ use Rattle.dpl_sound.proofs.Names.{name_verdict-gives}
 use Rattle.dpl_sound.proofs.Posts.{IsLone, lone-no_array, posts_type-gives, behind-has}
 use Rattle.dpl_sound.proofs.Sound.{range_item-type, ranges_verdict-has, kind-no_array}
 
-module _ {S : Type 0} (limits : Limits) (env : Environment Text S) (s : S) where
-  -- ---- a cell read
-  cell_read-whole : (e : ExprTree Text) (r : ReadTree Text) → cell_read e ≡ Some r → whole_in limits env e s ≡ None
+-- ---- a cell read
+module _ {N S : Type 0} (limits : Limits) (env : Environment N S) (s : S) where
+  cell_read-whole : (e : ExprTree N) (r : ReadTree N) → cell_read e ≡ Some r → whole_in limits env e s ≡ None
   cell_read-whole (Number at n) r h = refl
   cell_read-whole (TruthWord at b) r h = refl
   cell_read-whole (Named x) r h = absurd cc
@@ -38,11 +38,12 @@ module _ {S : Type 0} (limits : Limits) (env : Environment Text S) (s : S) where
   cell_read-whole (Chain e rest) r h = absurd cc
   cell_read-whole (Postfixed e posts) r h = refl
 
-  item_read-whole : (item : ItemTree Text) (r : ReadTree Text) → item_read item ≡ Some r → whole_item limits env item s ≡ None
+  pub item_read-whole : (item : ItemTree N) (r : ReadTree N) → item_read item ≡ Some r → whole_item limits env item s ≡ None
   item_read-whole (One e) r h = cell_read-whole e r h
   item_read-whole (RangeItem low at dots high by) r h = refl
 
-  -- ---- an array
+-- ---- an array
+module _ {S : Type 0} (limits : Limits) (env : Environment Text S) (s : S) where
   module _ (scopes : Scopes) (fits : Fits env scopes s) where
     abbrev HasWhole : ExprTree Text → Type 0
     HasWhole e = (rs : List TextRange) × (whole_in limits env e s ≡ Some rs)
@@ -94,7 +95,7 @@ module _ {S : Type 0} (limits : Limits) (env : Environment Text S) (s : S) where
     side_by : (o : Option (ReadTree Text)) (item : ItemTree Text) (rs : List TextRange) → item_read item ≡ o → whole_item limits env item s ≡ Some rs
         → read_or_type (kind_read scopes o) (item_type scopes item) ≡ item_type scopes item
     side_by None item rs e h = refl
-    side_by (Some r) item rs e h = elim (none_no_some rs (whole_item limits env item s) (item_read-whole item r e) h) [ ]
+    side_by (Some r) item rs e h = elim (none_no_some rs (whole_item limits env item s) (item_read-whole limits env s item r e) h) [ ]
 
     -- with one it is an expression
     pub side-expression : (item : ItemTree Text) (rs : List TextRange) → whole_item limits env item s ≡ Some rs → (side_part scopes item).type ≡ item_type scopes item

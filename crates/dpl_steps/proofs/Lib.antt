@@ -6,3 +6,4 @@ pub mod ArrayItems
 pub mod Refusing
 pub mod FoldedTurns
 pub mod Rooms
+pub mod Contexts

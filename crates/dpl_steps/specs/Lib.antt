@@ -6,3 +6,5 @@ pub mod Lineages
 pub mod Refusals
 -- Ints that are folded onto a word, in turns that are made at once.
 pub mod Folded
+-- What a context is made with, of the crates below.
+pub mod Contexts

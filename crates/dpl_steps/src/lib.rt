@@ -22,6 +22,8 @@ mod statement;
 mod turn;
 
 pub use context::Context;
+pub use dpl_elements::{Crew, WholeTurns};
+pub use dpl_values::{Team, reduced_int_by_workers, reduced_truth_by_workers};
 pub use each::{bind, domain_indices};
 pub use statement::{range_indices, run};
 pub use turn::make_row;

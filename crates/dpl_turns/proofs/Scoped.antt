@@ -397,8 +397,8 @@ module _ (limits : Limits) (h : Changes) (own : OwnNames) (t : Index) (first sec
     suited_new = λ x item v g s u r f d e. tt;
     suited_element = λ x item v g s u r f e. tt;
     suited_once = λ x item v g s u r f w e. tt;
-    suited_turn = λ x item i v g s u r f w e. tt;
-    suited_initial = λ x over item i v g s u r f d e. tt;
+    suited_turn = λ x item i v g s u r f w p e. tt;
+    suited_initial = λ x over item i v g s u r f d p e. tt;
     changed = λ x op i old w g s u r f e held. tt;
     turned = λ x item over g s u r f e. All-every (λ i. Unit {0}) (λ i. tt) (indices_in (loop_ranges limits.locales over));
     spanned = λ x from items v g s u r f d e. tt;

@@ -31,8 +31,9 @@ use Rattle.dpl_sound.proofs.Outcomes.{items_sound, type_at-operand}
 use Rattle.dpl_lowered.specs.LoweredExpressions.{Once, lowered_item}
 use Rattle.dpl_lowered.proofs.Values.{whole_item-lowered}
 use Rattle.dpl_memory.specs.Memory.{VariableKind, DomainKind, ArrayKind, Memory, known_variable, array_at, in_memory}
-use Rattle.dpl_memory.specs.Resolved.{Shape, Bound, Seen, variable_of, HasShape, IsElement, IsShaped, HasNoArray, Suits, SuitsElement, Spans, SpansArray}
+use Rattle.dpl_memory.specs.Resolved.{Shape, Bound, Seen, variable_of, HasShape, IsElement, IsShaped, HasNoArray, GivesOnce, SuitsKind, Suits, SuitsElement, Spans, SpansArray}
 use Rattle.dpl_memory.proofs.Known.{memory-known}
+use Rattle.dpl_memory.proofs.Suiting.{unread-suits}
 use Rattle.dpl_nodes.specs.declared.tree.PromotedInt.{PromotedInt, Scalar' as IntScalar', Element as IntElement, Negative', Sum', Difference', Product', Quotient', Remainder'}
 use Rattle.dpl_nodes.specs.declared.tree.PromotedTruth.{PromotedTruth, Scalar' as TruthScalar', Element as TruthElement, Not', And', Or', Same', Differ', Compare}
 use Rattle.dpl_nodes.specs.Typed.{promoted_int, promoted_truth}
@@ -205,23 +206,22 @@ module _ (scopes : Scopes) (known : AreKnownScopes scopes) (intents : List (Boun
     resolved-unread : item_read (renamed_item (bound_in scopes) item) ≡ None
     resolved-unread = item_read-renamed (bound_in scopes) item ∙ ap (option_map (renamed_read (bound_in scopes))) unread
 
+    element-given : (j : VariableKind) → value_kind u ≡ Some j → operand_kind j ≡ Some k → (is_array u ≡ true → ⊥) → GivesOnce (ArrayKind k) shape (renamed_item (bound_in scopes) item) g
+    element-given j e kind single limits s shaped v ok =
+        let (o, of, same) = of-operand u j k e kind in
+        (element-value k v (once-value u k v o of same single (item-typed_at scopes known intents item simple u is limits s shaped None v ok)), λ n. absurd (n tt))
+
     pub element-suits : (j : VariableKind) → value_kind u ≡ Some j → operand_kind j ≡ Some k → (is_array u ≡ true → ⊥) → SuitsElement (ArrayKind k) shape (renamed_item (bound_in scopes) item) g
-    element-suits j e kind single = (
-      resolved-unread,
-      λ limits s shaped v ok.
-          let (o, of, same) = of-operand u j k e kind in
-          (element-value k v (once-value u k v o of same single (item-typed_at scopes known intents item simple u is limits s shaped None v ok)), λ n. absurd (n tt)),
-    )
+    element-suits j e kind single =
+        unread-suits (ArrayKind k) shape (GivesOnce (ArrayKind k) shape (renamed_item (bound_in scopes) item) g) (renamed_item (bound_in scopes) item) resolved-unread (element-given j e kind single)
 
     pub array-suits : (t : Typed) → typed_item Once t ≡ lowered_item known_variable Once (renamed_item (leaf_in scopes) item) → IsOfType t (Some u) → operand_kind (kind_of t) ≡ Some k
         → Suits (ArrayKind k) shape (renamed_item (bound_in scopes) item) g
-    array-suits t node of_type kind = (
-      resolved-unread,
-      (
-        λ none. (element-suits (kind_of t) of_type.0 kind (λ array. typed-whole none.0 none.1 t (of_type.1 array) (whole-typed none))).1,
-        λ limits s shaped i v ok. element-value k v (turn-value u (kind_of t) k i v of_type.0 kind (item-typed_at scopes known intents item simple u is limits s shaped (Some i) v ok)),
-      ),
-    )
+    array-suits t node of_type kind =
+        unread-suits (ArrayKind k) shape (SuitsKind (ArrayKind k) shape (renamed_item (bound_in scopes) item) g) (renamed_item (bound_in scopes) item) resolved-unread (
+          λ none. element-given (kind_of t) of_type.0 kind (λ array. typed-whole none.0 none.1 t (of_type.1 array) (whole-typed none)),
+          λ limits s shaped i v ok. element-value k v (turn-value u (kind_of t) k i v of_type.0 kind (item-typed_at scopes known intents item simple u is limits s shaped (Some i) v ok)),
+        )
       where
         whole-typed : (none : HasNoArray (renamed_item (bound_in scopes) item)) → whole_item none.0 in_memory (typed_item Once t) none.1 ≡ None
         whole-typed none =

@@ -17,6 +17,7 @@ use Rattle.dpl_lowered.proofs.Values.{item_of-lowered}
 use Rattle.dpl_memory.specs.Memory.{VariableKind, PlainKind, DomainKind, TupleKind, CellKind, ArrayKind, Memory, known_variable, in_memory}
 use Rattle.dpl_memory.specs.Resolved.{Shape, Bound, Seen, variable_of, IsOf, HasShape, IsShaped, GivesOnce as ItemGives, SuitsKind, Suits}
 use Rattle.dpl_memory.proofs.Known.{memory-known}
+use Rattle.dpl_memory.proofs.Suiting.{unread-suits}
 use Rattle.dpl_typer.specs.declared.make.Typed.{Typed}
 use Rattle.dpl_typer.specs.Makers.{typed_item, kind_of, is_promoted}
 use Rattle.dpl_typer.proofs.Evaluated.{GivesOnce, typed_item_gives}
@@ -50,10 +51,10 @@ module _ (scopes : Scopes) (t : Typed) (item : ItemTree Text) (is : typed_item O
   pub item-suits : (shape : Shape) (g : Seen) → is_promoted (kind_of t) ≡ false → item_read item ≡ None
       → ((limits : Limits) (s : Memory) → IsShaped g s → (v : Value) → item_of limits in_memory (renamed_item variable_of (renamed_item (bound_in scopes) item)) None s ≡ Ok v → HasShape (kind_of t) shape v)
       → Suits (kind_of t) shape (renamed_item (bound_in scopes) item) g
-  item-suits shape g once unread shaped = (
-    item_read-renamed (bound_in scopes) item ∙ ap (option_map (renamed_read (bound_in scopes))) unread,
-    kind-suits (kind_of t) shape (renamed_item (bound_in scopes) item) g once (λ limits s h v e. (
-      given (kind_of t) (item_of limits in_memory (typed_item Once t) None s) v (typed_item_gives limits s t) once (sym (item_of-resolved limits s) ∙ e),
-      λ n. shaped limits s h v e,
-    )),
-  )
+  item-suits shape g once unread shaped =
+      unread-suits (kind_of t) shape (SuitsKind (kind_of t) shape (renamed_item (bound_in scopes) item) g) (renamed_item (bound_in scopes) item)
+      (item_read-renamed (bound_in scopes) item ∙ ap (option_map (renamed_read (bound_in scopes))) unread)
+      (kind-suits (kind_of t) shape (renamed_item (bound_in scopes) item) g once (λ limits s h v e. (
+        given (kind_of t) (item_of limits in_memory (typed_item Once t) None s) v (typed_item_gives limits s t) once (sym (item_of-resolved limits s) ∙ e),
+        λ n. shaped limits s h v e,
+      )))

@@ -11,7 +11,7 @@ use Rattle.dpl_frame.specs.Frames.{Framed}
 use Rattle.dpl_loop.specs.Entries.{MayRefuse}
 use Rattle.dpl_loop.proofs.Ends.{halts-where, halts-alike, then_do-halts}
 use Rattle.dpl_readings.specs.Readings.{steps_in}
-use Rattle.dpl_elements.specs.Turns.{index_turn}
+use Rattle.dpl_steps.specs.Contexts.{index_turn}
 use Rattle.dpl_program.proofs.forall.make_forall.Goals as goal
 
 pub returns-clause-ends : goal.returns-clause-ends

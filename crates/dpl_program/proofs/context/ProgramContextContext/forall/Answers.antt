@@ -7,7 +7,7 @@ use Rattle.dpl_nodes.specs.Typed.{domain_view}
 use Rattle.dpl_nodes.specs.Steps.{intent_view}
 use Rattle.dpl_loop.specs.Entries.{MayRefuse}
 use Rattle.dpl_readings.specs.Readings.{steps_in}
-use Rattle.dpl_elements.proofs.Dealing.{ends-wider}
+use Rattle.dpl_steps.proofs.Contexts.{ends-wider}
 use Rattle.dpl_frame.specs.Dealt.{dealt_by}
 use Rattle.dpl_readings.specs.Written.{written_among}
 use Rattle.dpl_steps.proofs.Looping.{forall-domain}

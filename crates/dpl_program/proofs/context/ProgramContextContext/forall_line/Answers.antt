@@ -9,8 +9,8 @@ use Rattle.dpl_nodes.specs.declared.step.Names.TheVariants.{Int as IntName}
 use Rattle.dpl_contents.specs.Range.{range_word}
 use Rattle.dpl_loop.specs.Entries.{MayRefuse}
 use Rattle.dpl_readings.specs.Readings.{steps_in}
-use Rattle.dpl_elements.specs.Turns.{index_turn, intended_turns}
-use Rattle.dpl_elements.proofs.Dealing.{ends-wider}
+use Rattle.dpl_steps.specs.Contexts.{index_turn, intended_turns}
+use Rattle.dpl_steps.proofs.Contexts.{ends-wider}
 use Rattle.dpl_frame.specs.Dealt.{dealt_by}
 use Rattle.dpl_readings.specs.Written.{written_among}
 use Rattle.dpl_steps.proofs.Looping.{forall-range}
