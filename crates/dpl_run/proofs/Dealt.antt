@@ -1,6 +1,6 @@
 -- A plan of a program that has no refusal deals out the turns of each forall that its run enters by the definition's map.
--- And what the tree of its steps says of a forall's map is what the call that makes the forall goes by.
-use Rattle.std.proofs.Common.{◌≡◌, ℕ, ◌≤◌, List, [], None, refl, sym, ap, ◌∙◌, subst}
+-- What the tree of its steps says of a forall's map is what the call that makes the forall goes by; and these foralls are the ones that are counted.
+use Rattle.std.proofs.Common.{◌≡◌, ℕ, ◌≤◌, List, [], ◌∷◌, None, refl, sym, ap, ◌∙◌, subst, map}
 use Rattle.std.proofs.Math.Nat.{le_refl}
 use Rattle.dpl_language.specs.Tree.{ProgramTree, One}
 use Rattle.dpl_language.specs.Environment.{Limits}
@@ -22,6 +22,7 @@ use Rattle.dpl_memory.specs.Memory.{known_variable, in_memory}
 use Rattle.dpl_memory.specs.Resolved.{variable_of, Start, first_memory, first_seen, resolving}
 use Rattle.dpl_standing.specs.Standing.{Outside, AllMayStand}
 use Rattle.dpl_standing.specs.Written.{first_in_body}
+use Rattle.dpl_readings.specs.Readings.{steps_in}
 use Rattle.dpl_readings.specs.Written.{slot_of, written_among}
 use Rattle.dpl_readings.proofs.Standing.{steps_in-of}
 use Rattle.dpl_nodes.specs.Spots.{IsNear}
@@ -38,13 +39,15 @@ use Rattle.dpl_planner.specs.Bounds.{bound_program}
 use Rattle.dpl_planner.specs.Given.{AreGiven}
 use Rattle.dpl_planner.proofs.Spelled.{program-spelled}
 use Rattle.dpl_run.specs.Entered.{entered_all, Pairwise}
-use Rattle.dpl_run.specs.Dealing.{IsDealtAlike, DealsAsMeant}
+use Rattle.dpl_run.specs.Recorded.{loop_of}
+use Rattle.dpl_run.specs.Dealing.{IsDealtAlike, DealsAsMeant, IsDealtAsCounted, DealsAsCounted}
 use Rattle.dpl_run.specs.Plans.{start_of, IsPlan}
 use Rattle.dpl_run.proofs.Planned.{are-given, planned, sets-fit}
 use Rattle.dpl_run.proofs.Standing.{plan-stands}
 use Rattle.dpl_run.proofs.Meaning.{alike}
 use Rattle.dpl_run.proofs.Runnable.{unbroken, walk-unbroken}
 use Rattle.dpl_run.proofs.TurnsMap.{turns-dealt}
+use Rattle.dpl_run.proofs.Recorded.{loops-entered}
 
 -- ---- a forall as a typed statement: over a range its turns are dealt out as over no name, over a domain by the name that the call is handed
 range-rootless : (r : RangeExpr) → slot_by (derived_from (range_view r)) ≡ None
@@ -88,3 +91,21 @@ plan-deals t sets limits slots scopes steps spelt untasked unrefused nodes fit b
     program-deals t sets limits slots scopes steps spelt untasked (walk-unbroken t sound)
     (fit (start_by t sets slots scopes) (le_refl slots) (are-given (start_by t sets slots scopes) scopes (alike t sets slots scopes steps plan (sets-fit t sets unrefused)))) nodes
     (plan-stands t sets steps untasked unrefused nodes)
+
+-- ---- the foralls that are counted: those on record, which are those that the run by names enters
+pair-map : {A B C : Type 0} (R : A → C → Type 0) (Q : B → C → Type 0) (f : A → B) → ((x : A) (z : C) → R x z → Q (f x) z)
+    → (xs : List A) (zs : List C) → Pairwise R xs zs → Pairwise Q (map f xs) zs
+pair-map R Q f h [] [] p = tt
+pair-map R Q f h [] (z ∷ zs) p = absurd p
+pair-map R Q f h (x ∷ xs) [] p = absurd p
+pair-map R Q f h (x ∷ xs) (z ∷ zs) p = (h x z p.0, pair-map R Q f h xs zs p.1)
+
+pub counted-dealt : (t : ProgramTree Text) (sets : List (List ℕ)) (limits : Limits) (slots : ℕ) (scopes : Scopes) (steps : List Step)
+    → UntaskedStmts t.stmts → DealsAsMeant t sets limits slots scopes steps → DealsAsCounted t sets limits slots scopes steps
+counted-dealt t sets limits slots scopes steps untasked deals layout histories =
+    let fs = all_foralls top t.stmts in
+    let run = entered_all limits in_memory (steps_in Outside steps) (first_memory (start_of slots scopes sets)) no_deeds in
+    subst (λ loops. Pairwise (IsDealtAsCounted layout limits fs) loops run) (sym (loops-entered t untasked (given t sets) limits histories))
+    (pair-map (IsDealtAlike layout limits fs) (IsDealtAsCounted layout limits fs) loop_of
+    (λ e r d. record { forall = d.forall; among = d.among; at = d.at; at_run = d.at_run; ranges = d.ranges; map = d.map })
+    (entered_all limits by_name t.stmts (first_state (given t sets) histories) no_deeds) run (deals layout histories))

@@ -60,7 +60,8 @@ use Rattle.dpl_typer.specs.Shapes.{shape_in}
 use Rattle.dpl_typer.specs.Sights.{bound_in}
 use Rattle.dpl_planner.specs.Bounds.{bound_body, bound_stmts}
 use Rattle.dpl_run.specs.Entered.{Entry, entered_all, Pairwise}
-use Rattle.dpl_run.specs.Dealing.{IsAmong, run_map, loop_of, meant_map, IsDealtAlike}
+use Rattle.dpl_run.specs.Recorded.{loop_of}
+use Rattle.dpl_run.specs.Dealing.{IsAmong, run_map, meant_map, IsDealtAlike}
 use Rattle.dpl_run.proofs.EnteredAlike.{IsMet, stmts-entered}
 use Rattle.dpl_run.proofs.EnteredLowered.{IsLowered, stmts-lowered}
 use Rattle.dpl_run.proofs.FirstWritten.{bound_itself, bound_slot, IsFirst, program-laws, program-firsts, first-slot}

@@ -25,8 +25,9 @@ use Rattle.dpl_nodes.specs.declared.step.Step.{Step}
 use Rattle.dpl_nodes.specs.Roots.{slot_by}
 use Rattle.dpl_says.specs.Given.{given}
 use Rattle.dpl_frame.specs.Dealt.{dealt_by}
-use Rattle.dpl_exchange.specs.Counts.{turns_map}
+use Rattle.dpl_exchange.specs.Counts.{turns_map, recorded}
 use Rattle.dpl_run.specs.Entered.{Entry, entered_all, Pairwise}
+use Rattle.dpl_run.specs.Recorded.{loop_of}
 use Rattle.dpl_run.specs.Plans.{start_of}
 
 -- one of some things
@@ -39,13 +40,12 @@ abbrev pub run_map : LayoutValue → Limits → Entry Variable Memory → List A
 run_map layout limits e =
     dealt_by (record { memory = e.state; limits = limits; layout = layout }) (slot_by (derived_item e.over)) (first_in_body slot_of e.body)
 
--- what `recording` notes of a forall that is entered by names
-abbrev pub loop_of : Entry Text State → LoopRun
-loop_of e = record { at = e.at; over = e.ranges; value = λ x. by_name.get x e.state; root = λ x. by_name.root x e.state }
+-- the definition's map of its turns, by what the rules have its body write where it stands in the text: of a forall on record, and of one that is entered
+abbrev pub counted_map : LayoutValue → ForallIn → LoopRun → List AxisValue
+counted_map layout f l = turns_map layout l (written_arrays (scope_in f) (deeds_in f)) (derived_item f.over)
 
--- the definition's map of its turns, by what the rules have its body write where it stands in the text
 abbrev pub meant_map : LayoutValue → ForallIn → Entry Text State → List AxisValue
-meant_map layout f e = turns_map layout (loop_of e) (written_arrays (scope_in f) (deeds_in f)) (derived_item f.over)
+meant_map layout f e = counted_map layout f (loop_of e)
 
 -- A forall that both enter: it is one of the text's, over the same domain, and the run deals out its turns by the definition's map.
 pub record IsDealtAlike (layout : LayoutValue) (limits : Limits) (fs : List ForallIn) (e : Entry Text State) (r : Entry Variable Memory) : Type 0 where
@@ -63,4 +63,20 @@ abbrev pub DealsAsMeant : ProgramTree Text → List (List ℕ) → Limits → �
 DealsAsMeant t sets limits slots scopes steps =
     (layout : LayoutValue) (histories : List (List Event))
     → Pairwise (IsDealtAlike layout limits (all_foralls top t.stmts)) (entered_all limits by_name t.stmts (first_state (given t sets) histories) no_deeds)
+    (entered_all limits in_memory (steps_in Outside steps) (first_memory (start_of slots scopes sets)) no_deeds)
+
+-- The same of a forall on record: by that map it is counted which elements its turns read that other locales own.
+pub record IsDealtAsCounted (layout : LayoutValue) (limits : Limits) (fs : List ForallIn) (l : LoopRun) (r : Entry Variable Memory) : Type 0 where
+  pub forall : ForallIn
+  pub among : IsAmong forall fs
+  pub at : l.at ≡ forall.at
+  pub at_run : r.at ≡ forall.at
+  pub ranges : l.over ≡ r.ranges
+  pub map : run_map layout limits r ≡ counted_map layout forall l
+
+-- and of all foralls on the record of the program's run by names, over which the count goes
+abbrev pub DealsAsCounted : ProgramTree Text → List (List ℕ) → Limits → ℕ → Scopes → List Step → Type 0
+DealsAsCounted t sets limits slots scopes steps =
+    (layout : LayoutValue) (histories : List (List Event))
+    → Pairwise (IsDealtAsCounted layout limits (all_foralls top t.stmts)) (recorded t (given t sets) limits histories).loops
     (entered_all limits in_memory (steps_in Outside steps) (first_memory (start_of slots scopes sets)) no_deeds)

@@ -1,5 +1,6 @@
 -- The foralls that a run enters, one after another, each with what stands in the text and with the state as it is entered.
--- The same cases as in `exec`, of programs without tasks: what stands in a coforall or behind `on` is left out.
+-- The same cases as in `exec`, of programs without tasks: what stands in a coforall or behind `on` is left out. That a run with a record has
+-- just these foralls on it is a law (proofs/Recorded.antt).
 use Rattle.std.specs.Prelude.{ℕ, zero, suc, nat_lt, Bool, true, false, None, Result, Ok, Err, List, [], ◌∷◌, ◌++◌}
 use Rattle.dpl_syntax.specs.declared.place.Place.{Place}
 use Rattle.dpl_sets.specs.TextRanges.{TextRange}

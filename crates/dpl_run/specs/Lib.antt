@@ -9,8 +9,9 @@ pub mod Writers
 pub mod Runs
 pub mod Plans
 pub mod Refusing
--- Which foralls a run enters, and by which map their turns are dealt out.
+-- Which foralls a run enters, and has on record where it keeps one; and by which map their turns are dealt out.
 pub mod Entered
+pub mod Recorded
 pub mod Dealing
 -- A program without its maps, and variables without roots.
 pub mod Unmapped
