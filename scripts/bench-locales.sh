@@ -1,11 +1,14 @@
 #!/bin/sh
 # Times foralls on one locale, and on four by block, by cyclic and by block-cyclic maps, all in one run: a stencil over a plane, a mean that is copied back, fills of arrays, sums by a reduce
 # intent and by a reduction, and many small loops. Each program is run with and without its loops' repetitions, so that what is told is the time of the loops alone.
-# Blocks that go round are slow: their column is of one round with one repetition, and takes a minute.
-# usage: scripts/bench-locales.sh [ROUNDS [EXECUTABLE]]. Needs python3.
+# Blocks that go round are slow: their column is of one round with one repetition, and takes a minute. Last come the fills in C, by one thread and by four.
+# usage: scripts/bench-locales.sh [ROUNDS [EXECUTABLE]]. Needs python3 and a C compiler.
 set -eu
 top=$(cd "$(dirname "$0")/.." && pwd)
-exec python3 - "${1:-5}" "${2:-$top/dpl}" <<'PYTHON'
+work=$(mktemp -d)
+trap 'rm -rf "$work"' EXIT
+cc -O2 -pthread -o "$work/fills" "$top/benches/programs/fills.c"
+python3 - "${1:-5}" "${2:-$top/dpl}" <<'PYTHON'
 import subprocess, sys, time
 
 rounds, dpl = int(sys.argv[1]), sys.argv[2]
@@ -67,3 +70,4 @@ for name, head, body, times, tail in PROGRAMS:
     each = [(best[key, "whole"] - best[key, "bare"]) / (1 if goes_round else times) for key, _, goes_round in SETTINGS]
     print("| %s | " % name + " | ".join("%.5f" % s for s in each) + " |" + "".join(" %.2f |" % (s / each[0]) for s in each[1:]))
 PYTHON
+"$work/fills"
