@@ -1,12 +1,13 @@
 -- What loops do, by the turns of their ranges' members.
 -- Each lemma has the meaning of the plain loop on its left side.
-use Rattle.std.proofs.Common.{◌≡◌, ℕ, zero, suc, ◌+◌, ◌-◌, ◌≤◌, ◌<◌, arith, nat_lt, ℤ, pos, ◌+ℤ◌, ◌*ℤ◌, length, Bool, true, false, List, [], ◌∷◌, drop, map, slice_get, Some, None, Result, Ok, Err, refl, sym, ap, ◌∙◌}
+use Rattle.std.proofs.Common.{◌≡◌, ℕ, zero, suc, ◌+◌, ◌-◌, ◌≤◌, ◌<◌, arith, nat_lt, ℤ, pos, ◌+ℤ◌, ◌*ℤ◌, length, Bool, true, false, List, [], ◌∷◌, drop, map, get_or, slice_get, Some, None, Result, Ok, Err, refl, sym, ap, ◌∙◌}
 use Rattle.std.specs.List.{flat_map}
 use Rattle.dpl_syntax.specs.declared.place.Place.{Place}
 use Rattle.dpl_sets.specs.Ranges.{RangeValue, members_of}
 use Rattle.dpl_sets.specs.TextRanges.{TextRange}
 use Rattle.dpl_range.specs.Invariant.{IsRange}
 use Rattle.dpl_range.proofs.Lists.{drop-slice_get}
+use Rattle.dpl_syntax.proofs.Walks.{drop-at}
 use Rattle.dpl_sets.specs.Indices.{indices}
 use Rattle.dpl_array.specs.Elements.{Row, along, behind}
 use Rattle.dpl_array.proofs.InRows.{later-member}
@@ -23,7 +24,10 @@ use Rattle.dpl_language.specs.Statements.{holds, exec, exec_all, exec_else}
 use Rattle.dpl_lowered.specs.Shapes.{nowhere}
 use Rattle.dpl_lowered.specs.LoweredStatements.{behind_comma, with_intents}
 use Rattle.dpl_memory.specs.Memory.{Variable, Memory, in_memory}
+use Rattle.dpl_standing.specs.Standing.{Standing}
+use Rattle.dpl_readings.specs.Readings.{step_in, steps_in}
 use Rattle.dpl_nodes.specs.declared.step.Names.{Names}
+use Rattle.dpl_nodes.specs.declared.step.Step.{Step}
 use Rattle.dpl_nodes.specs.declared.step.Names.TheVariants.{Int as IntName}
 use Rattle.dpl_nodes.specs.Steps.{listed, variable_in, names_view}
 use Rattle.dpl_loop.specs.declared.stop.RunStop.{RunStop}
@@ -45,6 +49,13 @@ then_do-same (Waits at c op done) f g same = refl
 -- a scope does nothing of its own
 pub scoped-same : (body : Run Memory) (s : Memory) (done : Deeds) → scoped in_memory body s done ≡ body s done
 scoped-same body s done = then_do-done (body s done)
+
+-- a statement that is done, with those behind it
+pub exec_all_at : (limits : Limits) (w : Standing) (steps : List Step) (k : ℕ) (step : Step) (s next : Memory) (done : Deeds) → k < length steps → step ≡ get_or steps k step
+    → exec limits in_memory (step_in w step) s done ≡ Done next done
+    → exec_all limits in_memory (steps_in w (drop (k + 1) steps)) next done ≡ exec_all limits in_memory (steps_in w (drop k steps)) s done
+exec_all_at limits w steps k step s next done within at e =
+    sym (ap (λ ss. exec_all limits in_memory (steps_in w ss) s done) (drop-at steps k step within at) ∙ ap (λ o. then_do o (exec_all limits in_memory (steps_in w (drop (k + 1) steps)))) e)
 
 -- TURNS
 pub in_turn-done : (turn : ℤ → Run Memory) (is : List ℤ) (k : ℕ) (i : ℤ) (s next : Memory) (done after : Deeds) → slice_get is k ≡ Some i → turn i s done ≡ Done next after

@@ -1,7 +1,8 @@
 // Ints and truth values that are found directly: no reduction stands in them, and nothing in them has a fault.
-// An answer is a word or none, so whoever asks here first keeps no room for a fault; where there is none, a walk that tells faults begins anew.
+// A walk of them answers with a word in any case, and leaves beside it whether that was found: so no node tests what its parts answer. Where
+// nothing is found, a walk that tells faults begins anew.
 
-ghost use Rattle.std.specs.Prelude.{◌≡◌, Ok, IfSome};
+ghost use Rattle.std.specs.Prelude.{◌≡◌, true, false, Ok, IfSome};
 ghost use Rattle.dpl_syntax.specs.declared.place.Place.{Place};
 ghost use Rattle.dpl_language.specs.Values.{Int, Truth as TruthValue};
 ghost use Rattle.dpl_values.specs.Meanings.{int_in, truth_in, element_in};
@@ -11,111 +12,156 @@ use dpl_frame::{Arrays, Frame};
 use dpl_nodes::{BoolExpr, IndexExpr, IntExpr};
 use dpl_strips::number::{difference, negative, product, quotient, remainder, sum};
 
-/// The value of an int, where it is found directly: a leaf at once, and all else by a walk.
-#[cycle(direct)]
+/// The value of an int, where it is found directly.
 #[inline(always)]
 pub fn direct_int<A: Arrays>(e: &IntExpr<'_>, frame: &Frame<A>) -> Option<i64>
     ensures { IfSome result (λ n. int_in frame.now e.now ≡ Ok (Int n)) }
 {
+    let mut found = true;
+    let number = number(e, frame, &mut found);
+    if found { Some(number) } else { None }
+}
+
+/// The value of a truth value, where it is found directly. `&&` after false and `||` after true don't look at their right side.
+#[inline(always)]
+pub fn direct_truth<A: Arrays>(e: &BoolExpr<'_>, frame: &Frame<A>) -> Option<bool>
+    ensures { IfSome result (λ b. truth_in frame.now e.now ≡ Ok (TruthValue b)) }
+{
+    let mut found = true;
+    let truth = truth(e, frame, &mut found);
+    if found { Some(truth) } else { None }
+}
+
+// The word of an element that was looked for.
+#[inline(always)]
+fn word_of(element: Option<i64>, found: &mut bool) -> i64
+    ensures before { found.new ≡ true → found.old ≡ true }
+    ensures word { found.new ≡ true → element ≡ Some result }
+{
+    match element {
+        Some(word) => word,
+        None => {
+            *found = false;
+            0
+        }
+    }
+}
+
+// The value of an int: a leaf's at once, and that of all else by a walk. It is the int's where `found` is still true behind it.
+#[cycle(direct)]
+#[inline(always)]
+fn number<A: Arrays>(e: &IntExpr<'_>, frame: &Frame<A>, found: &mut bool) -> i64
+    ensures before { found.new ≡ true → found.old ≡ true }
+    ensures value { found.new ≡ true → int_in frame.now e.now ≡ Ok (Int result) }
+{
     match e {
-        IntExpr::Local(slot) => Some(frame.number(*slot)),
-        IntExpr::Number(n) => Some(*n),
-        _ => walked_int(e, frame),
+        IntExpr::Local(slot) => frame.number(*slot),
+        IntExpr::Number(n) => *n,
+        _ => walked_number(e, frame, found),
     }
 }
 
 // The word of an element.
 #[cycle(direct)]
-fn direct_element<A: Arrays>(slot: usize, t: &IndexExpr<'_>, frame: &Frame<A>) -> Option<i64>
-    ensures { (at : Place) → IfSome result (λ n. element_in frame.now slot t.now at ≡ Ok n) }
+fn element<A: Arrays>(slot: usize, t: &IndexExpr<'_>, frame: &Frame<A>, found: &mut bool) -> i64
+    ensures before { found.new ≡ true → found.old ≡ true }
+    ensures word { (at : Place) → found.new ≡ true → element_in frame.now slot t.now at ≡ Ok result }
 {
-    match t {
-        IndexExpr::Line(i) => frame.element_line(slot, direct_int(i, frame)?),
+    let element = match t {
+        IndexExpr::Line(i) => frame.element_line(slot, number(i, frame, found)),
         IndexExpr::Plane(i, j) => {
-            let i = direct_int(i, frame)?;
-            let j = direct_int(j, frame)?;
+            let i = number(i, frame, found);
+            let j = number(j, frame, found);
             frame.element_plane(slot, i, j)
         }
         IndexExpr::Space(i, j, k) => {
-            let i = direct_int(i, frame)?;
-            let j = direct_int(j, frame)?;
-            let k = direct_int(k, frame)?;
+            let i = number(i, frame, found);
+            let j = number(j, frame, found);
+            let k = number(k, frame, found);
             frame.element_space(slot, i, j, k)
         }
         IndexExpr::Tuple(tuple) => frame.element(slot, frame.tuple(*tuple)),
-    }
-}
-
-// Two operands.
-#[cycle(direct)]
-#[inline(always)]
-fn direct_two<A: Arrays>(a: &IntExpr<'_>, b: &IntExpr<'_>, frame: &Frame<A>) -> Option<(i64, i64)>
-    ensures left { IfSome result (λ p. int_in frame.now a.now ≡ Ok (Int p.0)) }
-    ensures right { IfSome result (λ p. int_in frame.now b.now ≡ Ok (Int p.1)) }
-{
-    let left = direct_int(a, frame)?;
-    let right = direct_int(b, frame)?;
-    Some((left, right))
+    };
+    word_of(element, found)
 }
 
 // The value of an int that is more than a leaf.
 #[cycle(direct)]
-fn walked_int<A: Arrays>(e: &IntExpr<'_>, frame: &Frame<A>) -> Option<i64>
-    ensures { IfSome result (λ n. int_in frame.now e.now ≡ Ok (Int n)) }
+fn walked_number<A: Arrays>(e: &IntExpr<'_>, frame: &Frame<A>, found: &mut bool) -> i64
+    ensures before { found.new ≡ true → found.old ≡ true }
+    ensures value { found.new ≡ true → int_in frame.now e.now ≡ Ok (Int result) }
 {
     match e {
-        IntExpr::Negative(e) => Some(negative(direct_int(e, frame)?)),
+        IntExpr::Negative(e) => negative(number(e, frame, found)),
         IntExpr::Sum(a, b) => {
-            let (left, right) = direct_two(a, b, frame)?;
-            Some(sum(left, right))
+            let left = number(a, frame, found);
+            sum(left, number(b, frame, found))
         }
         IntExpr::Difference(a, b) => {
-            let (left, right) = direct_two(a, b, frame)?;
-            Some(difference(left, right))
+            let left = number(a, frame, found);
+            difference(left, number(b, frame, found))
         }
         IntExpr::Product(a, b) => {
-            let (left, right) = direct_two(a, b, frame)?;
-            Some(product(left, right))
+            let left = number(a, frame, found);
+            product(left, number(b, frame, found))
         }
-        IntExpr::Quotient(a, b, _) => match direct_two(a, b, frame)? {
-            (left, right) if right != 0 => Some(quotient(left, right)),
-            _ => None,
-        },
-        IntExpr::Remainder(a, b, _) => match direct_two(a, b, frame)? {
-            (left, right) if right != 0 => Some(remainder(left, right)),
-            _ => None,
-        },
-        IntExpr::Element(slot, t, _) => direct_element(*slot, t, frame),
-        _ => None,
+        IntExpr::Quotient(a, b, _) => {
+            let left = number(a, frame, found);
+            match number(b, frame, found) {
+                0 => lost(found),
+                right => quotient(left, right),
+            }
+        }
+        IntExpr::Remainder(a, b, _) => {
+            let left = number(a, frame, found);
+            match number(b, frame, found) {
+                0 => lost(found),
+                right => remainder(left, right),
+            }
+        }
+        IntExpr::Element(slot, t, _) => element(*slot, t, frame, found),
+        _ => lost(found),
     }
 }
 
-/// The value of a truth value, where it is found directly. `&&` after false and `||` after true don't look at their right side.
+// Nothing is found: any word.
+#[inline(always)]
+fn lost(found: &mut bool) -> i64
+    ensures { found.new ≡ false }
+{
+    *found = false;
+    0
+}
+
+// A truth value: a comparison at once, and all else by a walk. It is the value where `found` is still true behind it.
 #[cycle(direct_truth)]
-pub fn direct_truth<A: Arrays>(e: &BoolExpr<'_>, frame: &Frame<A>) -> Option<bool>
-    ensures { IfSome result (λ b. truth_in frame.now e.now ≡ Ok (TruthValue b)) }
+#[inline(always)]
+fn truth<A: Arrays>(e: &BoolExpr<'_>, frame: &Frame<A>, found: &mut bool) -> bool
+    ensures before { found.new ≡ true → found.old ≡ true }
+    ensures value { found.new ≡ true → truth_in frame.now e.now ≡ Ok (TruthValue result) }
 {
     match e {
-        BoolExpr::Truth(b) => Some(*b),
-        BoolExpr::Local(slot) => Some(frame.number(*slot) != 0),
-        BoolExpr::Not(e) => Some(!direct_truth(e, frame)?),
-        BoolExpr::And(a, b) => {
-            if !direct_truth(a, frame)? {
-                return Some(false);
-            }
-            direct_truth(b, frame)
-        }
-        BoolExpr::Or(a, b) => {
-            if direct_truth(a, frame)? {
-                return Some(true);
-            }
-            direct_truth(b, frame)
-        }
         BoolExpr::Compare(comparison, a, b) => {
-            let (left, right) = direct_two(a, b, frame)?;
-            Some(holds(*comparison, left, right))
+            let left = number(a, frame, found);
+            holds(*comparison, left, number(b, frame, found))
         }
-        BoolExpr::Element(slot, t, _) => Some(direct_element(*slot, t, frame)? != 0),
-        _ => None,
+        _ => walked_truth(e, frame, found),
+    }
+}
+
+// A truth value that is no comparison.
+#[cycle(direct_truth)]
+fn walked_truth<A: Arrays>(e: &BoolExpr<'_>, frame: &Frame<A>, found: &mut bool) -> bool
+    ensures before { found.new ≡ true → found.old ≡ true }
+    ensures value { found.new ≡ true → truth_in frame.now e.now ≡ Ok (TruthValue result) }
+{
+    match e {
+        BoolExpr::Truth(b) => *b,
+        BoolExpr::Local(slot) => frame.number(*slot) != 0,
+        BoolExpr::Not(e) => !truth(e, frame, found),
+        BoolExpr::And(a, b) => truth(a, frame, found) && truth(b, frame, found),
+        BoolExpr::Or(a, b) => truth(a, frame, found) || truth(b, frame, found),
+        BoolExpr::Element(slot, t, _) => element(*slot, t, frame, found) != 0,
+        _ => lost(found) != 0,
     }
 }

@@ -10,11 +10,11 @@ use Rattle.dpl_elements.specs.Turns.{in_turn, turn_in_memory, index_turn}
 use Rattle.dpl_steps.proofs.+run.Given as goal
 
 -- what is left to run, from here, is what was to run at first
-abbrev pub invariant-statement::run-loop-step : goal.invariant-statement::run-loop-step
-invariant-statement::run-loop-step g l = record {
+abbrev pub invariant-statement::walk-loop-k : goal.invariant-statement::walk-loop-k
+invariant-statement::walk-loop-k g l = record {
   ends : (done : Deeds) → let limits = l.initial.frame.limits in
-      exec_all limits in_memory (steps_in g.C.Context.standing (drop l.step-index l.steps)) l.frame.memory (g.C.Context.having l.out done)
-      ≡ exec_all limits in_memory (steps_in g.C.Context.standing l.steps) l.initial.frame.memory (g.C.Context.having l.initial.out done);
+      exec_all limits in_memory (steps_in g.C.Context.standing (drop l.k l.steps)) l.frame.memory (g.C.Context.having l.out done)
+      ≡ exec_all limits in_memory (steps_in g.C.Context.standing (drop l.first l.steps)) l.initial.frame.memory (g.C.Context.having l.initial.out done);
   limits : l.frame.limits ≡ l.initial.frame.limits;
 }
 

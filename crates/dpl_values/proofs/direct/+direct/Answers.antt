@@ -1,8 +1,9 @@
 -- An element's word is the int.
 -- These are the answers to the goals of the functions of ints that are found directly.
-use Rattle.std.proofs.Common.{ap, ◌∙◌}
-use Rattle.std.proofs.lemmas.Option.{IfSome_then}
+use Rattle.std.proofs.Common.{Ok, rules, sym, ap, ◌∙◌, w64, FitsSigned}
+use Rattle.std.proofs.lemmas.Int.{to_z-of_z}
 use Rattle.dpl_language.specs.Tree.{IntKind}
+use Rattle.dpl_language.specs.Values.{Int}
 use Rattle.dpl_language.specs.Expressions.{items_of}
 use Rattle.dpl_memory.specs.Memory.{array_at, in_memory}
 use Rattle.dpl_nodes.specs.declared.tree.IntExpr.{IntExpr}
@@ -11,10 +12,11 @@ use Rattle.dpl_values.specs.Meanings.{int_in}
 use Rattle.dpl_values.proofs.Found.{element-found}
 use Rattle.dpl_values.proofs.direct.+direct.Goals as goal
 
-pub walked_int-returns-in-Element : goal.walked_int-returns-in-Element
-walked_int-returns-in-Element g t c =
+pub walked_number-returns-in-Element-clause-value : goal.walked_number-returns-in-Element-clause-value
+walked_number-returns-in-Element-clause-value g t c found =
     let f = c.args.frame.now in
     let at = c.in-Element.field-2.now in
-    IfSome_then c.direct_element.result (c.direct_element.ensures at)
-    (λ n found. ap (λ (e : IntExpr). int_in f e) c.in-Element.is
-    ∙ element-found IntKind at n (array_at c.in-Element.slot f.memory) (items_of f.limits in_memory (index_items c.in-Element.t.now) f.memory) found)
+    let fits : FitsSigned w64 c.element.result = search rules in
+    ap (λ (e : IntExpr). int_in f e) c.in-Element.is
+    ∙ element-found IntKind at c.element.result (array_at c.in-Element.slot f.memory) (items_of f.limits in_memory (index_items c.in-Element.t.now) f.memory) (c.element.ensures.word at found)
+    ∙ ap (λ n. Ok (Int n)) (sym (to_z-of_z w64 c.element.result fits))

@@ -1,17 +1,14 @@
--- An int goes down a tree: two operands come between a node and each of them, an element's index between the node and its coordinates.
-use Rattle.std.proofs.Common.{◌+◌, ◌*◌, max}
+-- An int goes down a tree: an element's index comes between a node and its coordinates.
+use Rattle.std.proofs.Common.{◌+◌, ◌*◌}
 use Rattle.dpl_nodes.specs.declared.tree.IntExpr.{size-IntExpr}
 use Rattle.dpl_nodes.specs.declared.tree.IndexExpr.{size-IndexExpr}
 use Rattle.dpl_values.proofs.direct.+direct.Given as goal
 
-abbrev pub decreases-direct_int : goal.decreases-direct_int
-decreases-direct_int g l = 3 * size-IntExpr l.e.now + 1
+abbrev pub decreases-number : goal.decreases-number
+decreases-number g l = 2 * size-IntExpr l.e.now + 1
 
-abbrev pub decreases-direct_element : goal.decreases-direct_element
-decreases-direct_element g l = 3 * size-IndexExpr l.t.now
+abbrev pub decreases-element : goal.decreases-element
+decreases-element g l = 2 * size-IndexExpr l.t.now
 
-abbrev pub decreases-direct_two : goal.decreases-direct_two
-decreases-direct_two g l = 3 * max (size-IntExpr l.a.now) (size-IntExpr l.b.now) + 2
-
-abbrev pub decreases-walked_int : goal.decreases-walked_int
-decreases-walked_int g l = 3 * size-IntExpr l.e.now
+abbrev pub decreases-walked_number : goal.decreases-walked_number
+decreases-walked_number g l = 2 * size-IntExpr l.e.now

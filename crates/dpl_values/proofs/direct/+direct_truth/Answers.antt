@@ -1,5 +1,5 @@
 -- An element's word is the truth value.
--- These are the answers to the goals of `direct_truth`.
+-- These are the answers to the goals of the functions of truth values that are found directly.
 use Rattle.std.proofs.Common.{ap, ◌∙◌, rules}
 use Rattle.dpl_language.specs.Tree.{BoolKind}
 use Rattle.dpl_language.specs.Expressions.{items_of}
@@ -10,10 +10,10 @@ use Rattle.dpl_values.specs.Meanings.{truth_in}
 use Rattle.dpl_values.proofs.Found.{element-found}
 use Rattle.dpl_values.proofs.direct.+direct_truth.Goals as goal
 
-pub returns-in_ok-direct_element-in-Element : goal.returns-in_ok-direct_element-in-Element
-returns-in_ok-direct_element-in-Element g t c =
+pub walked_truth-returns-in-Element-clause-value : goal.walked_truth-returns-in-Element-clause-value
+walked_truth-returns-in-Element-clause-value g t c found =
     let f = c.args.frame.now in
     let at = c.in-Element.field-2.now in
     ap (λ (e : BoolExpr). truth_in f e) c.in-Element.is
-    ∙ element-found BoolKind at c.in_ok-direct_element-in-Element.field-0 (array_at c.in-Element.slot f.memory) (items_of f.limits in_memory (index_items c.in-Element.t.now) f.memory) (c.in_ok-direct_element-in-Element.ensures at)
+    ∙ element-found BoolKind at c.element.result (array_at c.in-Element.slot f.memory) (items_of f.limits in_memory (index_items c.in-Element.t.now) f.memory) (c.element.ensures.word at found)
     ∙ search rules
