@@ -22,7 +22,7 @@ some-of None there = absurd cc
 some-of (Some n) there = (n, refl)
 
 -- an element that is there goes into what such an operator makes of it
-change-there : (limits : Limits) (x : ArrayName) (op : Assign) (sign : Place) (t : Index) (v : Value) (u : Memory) (done : Deeds) (old w : ℤ)
+pub change-there : (limits : Limits) (x : ArrayName) (op : Assign) (sign : Place) (t : Index) (v : Value) (u : Memory) (done : Deeds) (old w : ℤ)
     → held_at t (array_at x.slot u) ≡ Some old → assign_divides op ≡ false → assigned op None (Int old) v ≡ Int w
     → change limits in_memory (array_leaf IntKind x) (signed op sign) t v u done ≡ Done (with_array x.slot (held_with t w (array_at x.slot u)) u) done
 change-there limits x op sign t v u done old w there divides becomes =

@@ -16,8 +16,8 @@ use dpl_loop::{Row, STRIP, Strip};
 use dpl_nodes::{ArrayName, Spot};
 use dpl_tree::Assign;
 
-// What an operator makes of elements that stand side by side and of ints for them, in the ints' strip; nothing of an operator that divides.
-fn changed<A: Arrays>(
+/// What an operator makes of elements that stand side by side and of ints for them, in the ints' strip; nothing of an operator that divides.
+pub fn changed<A: Arrays>(
     name: &ArrayName<'_>,
     op: Assign,
     at: Row,

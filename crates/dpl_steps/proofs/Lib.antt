@@ -5,5 +5,6 @@ pub mod Gathered
 pub mod ArrayItems
 pub mod Refusing
 pub mod FoldedTurns
+pub mod BranchTurns
 pub mod Rooms
 pub mod Contexts

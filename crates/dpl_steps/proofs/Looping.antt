@@ -7,6 +7,7 @@ use Rattle.dpl_sets.specs.Ranges.{RangeValue, members_of}
 use Rattle.dpl_sets.specs.TextRanges.{TextRange}
 use Rattle.dpl_range.specs.Invariant.{IsRange}
 use Rattle.dpl_range.proofs.Lists.{drop-slice_get}
+use Rattle.dpl_syntax.proofs.Walks.{drop-end}
 use Rattle.dpl_sets.specs.Indices.{indices}
 use Rattle.dpl_array.specs.Elements.{Row, along, behind}
 use Rattle.dpl_array.proofs.InRows.{later-member}
@@ -23,12 +24,16 @@ use Rattle.dpl_language.specs.Statements.{holds, exec, exec_all, exec_else}
 use Rattle.dpl_lowered.specs.Shapes.{nowhere}
 use Rattle.dpl_lowered.specs.LoweredStatements.{behind_comma, with_intents}
 use Rattle.dpl_memory.specs.Memory.{Variable, Memory, in_memory}
+use Rattle.dpl_standing.specs.Standing.{Standing}
+use Rattle.dpl_readings.specs.Readings.{steps_in}
 use Rattle.dpl_nodes.specs.declared.step.Names.{Names}
+use Rattle.dpl_nodes.specs.declared.step.Step.{Step}
 use Rattle.dpl_nodes.specs.declared.step.Names.TheVariants.{Int as IntName}
 use Rattle.dpl_nodes.specs.Steps.{listed, variable_in, names_view}
 use Rattle.dpl_loop.specs.declared.stop.RunStop.{RunStop}
 use Rattle.dpl_loop.specs.Runs.{AreDone, RunsTo}
 use Rattle.dpl_loop.proofs.Ends.{then_do-halts, halts-alike}
+use Rattle.dpl_loop.proofs.Order.{order-done}
 use Rattle.dpl_elements.specs.Turns.{in_turn, turn_in_memory, bound_at, index_turn, within, looped_over}
 
 -- RUNS ONE AFTER ANOTHER
@@ -45,6 +50,17 @@ then_do-same (Waits at c op done) f g same = refl
 -- a scope does nothing of its own
 pub scoped-same : (body : Run Memory) (s : Memory) (done : Deeds) → scoped in_memory body s done ≡ body s done
 scoped-same body s done = then_do-done (body s done)
+
+-- statements of which the first are done come to what the others come to
+pub exec_all-rest : (before limits : Limits) (w : Standing) (steps : List Step) (k : ℕ) (s next : Memory) (done : Deeds)
+    → exec_all before in_memory (steps_in w (drop k steps)) next done ≡ exec_all before in_memory (steps_in w steps) s done → limits ≡ before
+    → exec_all before in_memory (steps_in w steps) s done ≡ exec_all limits in_memory (steps_in w (drop k steps)) next done
+exec_all-rest before limits w steps k s next done made same = sym made ∙ ap (λ l. exec_all l in_memory (steps_in w (drop k steps)) next done) (sym same)
+
+-- statements that are all done
+pub exec_all-whole : (limits : Limits) (w : Standing) (steps : List Step) (k : ℕ) (s next : Memory) (done : Deeds) → length steps ≤ k
+    → exec_all limits in_memory (steps_in w (drop k steps)) next done ≡ exec_all limits in_memory (steps_in w steps) s done → exec_all limits in_memory (steps_in w steps) s done ≡ Done next done
+exec_all-whole limits w steps k s next done past made = sym made ∙ ap (λ ss. exec_all limits in_memory (steps_in w ss) next done) (drop-end steps k past)
 
 -- TURNS
 pub in_turn-done : (turn : ℤ → Run Memory) (is : List ℤ) (k : ℕ) (i : ℤ) (s next : Memory) (done after : Deeds) → slice_get is k ≡ Some i → turn i s done ≡ Done next after
@@ -86,6 +102,25 @@ module _ (limits : Limits) (slot : ℕ) (body : Stmts Variable) (r : RangeValue)
 
     pub in_turn-row : in_turn turn_there (drop (place + size) (members_of r)) next done ≡ in_turn turn_there (drop place (members_of r)) s done
     in_turn-row = ap (λ m. in_turn turn_there (drop (place + size) (members_of r)) m done) (sym are.ends) ∙ in_turn-some size (omega arith)
+
+-- turns of a row, which are done, at the indices from a place on
+module _ (turn : Index → Run Memory) (ts : List Index) (place : ℕ) (row : Row) (size : ℕ) (s next : Memory) (done : Deeds) (are : AreDone turn row size s next) (there : (k : ℕ) → k < size → slice_get ts (place + k) ≡ Some (behind k row)) where
+  in_order-some : (n : ℕ) → n ≤ size → in_order turn (drop (place + n) ts) (are.between n) done ≡ in_order turn (drop place ts) s done
+  in_order-some zero most =
+      let same : place + 0 ≡ place = omega arith in
+      ap (λ k. in_order turn (drop k ts) (are.between 0) done) same
+      ∙ ap (λ m. in_order turn (drop place ts) m done) are.begins
+  in_order-some (suc n) most =
+      let below : n < size = omega (arith, most) in
+      let next_place : place + suc n ≡ (place + n) + 1 = omega arith in
+      let next_one : suc n ≡ n + 1 = omega arith in
+      ap (λ k. in_order turn (drop k ts) (are.between (suc n)) done) next_place
+      ∙ ap (λ k. in_order turn (drop ((place + n) + 1) ts) (are.between k) done) next_one
+      ∙ order-done turn ts (place + n) (behind n row) (are.between n) (are.between (n + 1)) done done (there n below) (are.each n below done)
+      ∙ in_order-some n (omega (arith, most))
+
+  pub in_order-row : in_order turn (drop (place + size) ts) next done ≡ in_order turn (drop place ts) s done
+  in_order-row = ap (λ m. in_order turn (drop (place + size) ts) m done) (sym are.ends) ∙ in_order-some size (omega arith)
 
 -- the indices of a domain, one after another
 pub in_order-done : (turn : Index → Run Memory) (ts left : List Index) (t : Index) (s next : Memory) (done after : Deeds) → ts ≡ t ∷ left → turn t s done ≡ Done next after

@@ -6,5 +6,7 @@ pub mod Lineages
 pub mod Refusals
 -- Ints that are folded onto a word, in turns that are made at once.
 pub mod Folded
+-- Statements that are done where a condition holds, and words that are put where it does.
+pub mod Branches
 -- What a context is made with, of the crates below.
 pub mod Contexts

@@ -166,15 +166,14 @@ pub(crate) fn direct_number<A: Arrays>(
         ≡ Ok (with_value_in (PlainKind IntLeaf) slot (Int n) frame.now.memory)) }
 {
     let value = direct_int(e, frame)?;
-    let number = frame.number(slot);
     match deed {
         IntDeed::Declare => Some(value),
         IntDeed::Set => Some(value),
-        IntDeed::Add => Some(sum(number, value)),
-        IntDeed::Subtract => Some(difference(number, value)),
-        IntDeed::Multiply => Some(product(number, value)),
-        IntDeed::Divide(_) if value != 0 => Some(quotient(number, value)),
-        IntDeed::Remainder(_) if value != 0 => Some(remainder(number, value)),
+        IntDeed::Add => Some(sum(frame.number(slot), value)),
+        IntDeed::Subtract => Some(difference(frame.number(slot), value)),
+        IntDeed::Multiply => Some(product(frame.number(slot), value)),
+        IntDeed::Divide(_) if value != 0 => Some(quotient(frame.number(slot), value)),
+        IntDeed::Remainder(_) if value != 0 => Some(remainder(frame.number(slot), value)),
         _ => None,
     }
 }

@@ -1,7 +1,7 @@
 // Statements that are done directly: what is done to an int whose number is found so, and an `if` over one of these.
 // Whoever runs statements asks here first, and on that way needs no room for a fault. What isn't done so leaves the frame as it was, and is begun anew.
 
-ghost use Rattle.std.specs.Prelude.{◌≡◌, true, false, Ok};
+ghost use Rattle.std.specs.Prelude.{◌≡◌, ◌≤◌, true, false, Ok, drop, length};
 ghost use Rattle.dpl_language.specs.Values.{Truth as TruthValue};
 ghost use Rattle.dpl_language.specs.Outcome.{Deeds, Done};
 ghost use Rattle.dpl_language.specs.Statements.{exec, exec_all, exec_else};
@@ -43,12 +43,28 @@ pub(crate) fn direct_statement<A: Arrays>(step: &Step<'_>, frame: &mut Frame<A>)
             frame.set_number(*slot, number);
             true
         }
-        Step::If { .. } => direct_branch(step, frame),
-        _ => false,
+        _ => direct_branch(step, frame),
     }
 }
 
-// An `if` with one statement in its first branch.
+/// How many of the first of some statements are done directly, one after another.
+#[inline(always)]
+pub(crate) fn direct_statements<A: Arrays>(steps: &[Step<'_>], frame: &mut Frame<A>) -> usize
+    ensures within { result ≤ length steps.now }
+    ensures done { (w : Standing) (done : Deeds)
+        → exec_all frame.old.limits in_memory (steps_in w (drop result steps.now)) frame.new.memory done
+        ≡ exec_all frame.old.limits in_memory (steps_in w steps.now) frame.old.memory done }
+    ensures limits { frame.new.limits ≡ frame.old.limits }
+{
+    for k in 0..steps.len() {
+        if !direct_statement(&steps[k], frame) {
+            return k;
+        }
+    }
+    steps.len()
+}
+
+// An `if` with one statement in its first branch. No other statement is done here.
 #[cycle(direct)]
 #[inline(never)]
 fn direct_branch<A: Arrays>(step: &Step<'_>, frame: &mut Frame<A>) -> bool

@@ -1,7 +1,8 @@
 // Loops over domains: the variables of a turn hold its index, as one int, as a tuple, or coordinate by coordinate.
-// Their turns run the same statements as those of loops over ranges.
+// Their turns run the same statements as those of loops over ranges, several at once as long as that goes (rows.rt).
 
-ghost use Rattle.std.specs.Prelude.{◌≡◌, pos, get_or};
+ghost use Rattle.std.specs.Prelude.{◌≡◌, pos, get_or, drop};
+ghost use Rattle.dpl_sets.specs.Indices.{indices};
 ghost use Rattle.dpl_language.specs.Tree.{One, For as ForTree};
 ghost use Rattle.dpl_language.specs.Values.{number, Domain as DomainValue};
 ghost use Rattle.dpl_language.specs.Ranges.{index_value, indices_in};
@@ -20,8 +21,9 @@ ghost use Rattle.dpl_readings.specs.Readings.{steps_in};
 ghost use Rattle.dpl_elements.specs.Turns.{each_bound, bound_at, index_turn, looped_over};
 
 use crate::context::Context;
+use crate::rows::domain_rows;
 use crate::statement::run;
-use dpl_domain::Index;
+use dpl_domain::{Cursor, Domain, Index};
 use dpl_frame::{Arrays, DomainWord, Frame, Trap};
 use dpl_loop::RunStop;
 use dpl_nodes::{DomainExpr, Names, Spot, Step};
@@ -121,7 +123,18 @@ fn domain_turn<'t, C: Context>(
     run(body, context, frame, out)
 }
 
-// The turns of a domain's indices, in its order.
+// The indices of a domain behind its first ones, so many.
+fn indices_behind(domain: &Domain, count: u64) -> Cursor
+    ensures { result ≡ drop count (indices domain.now) }
+{
+    let mut indices = domain.cursor();
+    for _k in 0..count {
+        let _ = indices.next();
+    }
+    indices
+}
+
+// The turns of a domain's indices, in its order: several at once as long as that goes, and then one by one.
 #[cycle(run)]
 #[inline(never)]
 fn domain_turns<'t, C: Context>(
@@ -137,7 +150,12 @@ fn domain_turns<'t, C: Context>(
         (in_order (index_turn frame.old.limits names.now (steps_in C.standing body.now)) (indices_in domain) frame.old.memory (C.having out.old done)) }
     ensures limits { frame.new.limits ≡ frame.old.limits }
 {
-    let mut indices = domain.cursor();
+    let over = domain.domain();
+    let made = domain_rows(&over, names, body, frame);
+    if made == over.size() {
+        return Ok(());
+    }
+    let mut indices = indices_behind(&over, made);
     while let Some(index) = indices.next() {
         domain_turn(index, names, body, context, frame, out)?;
     }

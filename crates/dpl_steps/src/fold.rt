@@ -1,8 +1,9 @@
 // Ints that are folded onto a word, one after another: none of them has a fault.
 
-ghost use Rattle.std.specs.Prelude.{◌≡◌, ◌≤◌, Some, IfSome};
+ghost use Rattle.std.specs.Prelude.{◌≡◌, ◌≤◌, pos, if◌then◌else◌, Some, IfSome};
+ghost use Rattle.std.specs.Ordering.{int_eq};
 ghost use Rattle.dpl_nodes.specs.declared.step.IntDeed.TheVariants.{Reduce};
-ghost use Rattle.dpl_steps.specs.Folded.{folded_one, folded_words, Folds};
+ghost use Rattle.dpl_steps.specs.Folded.{folded_one, folded_words, folded_where, Folds};
 
 use dpl_loop::STRIP;
 use dpl_nodes::{Fold, IntDeed, IntFold};
@@ -50,4 +51,31 @@ pub(crate) fn folded(fold: IntFold, word: i64, words: &[i64; STRIP], size: usize
         made = folded_one(fold, made, words[k]);
     }
     made
+}
+
+/// The same, where those ints count alone at whose places a mask has another word than 0.
+pub(crate) fn folded_where(
+    fold: IntFold,
+    word: i64,
+    mask: &[i64; STRIP],
+    words: &[i64; STRIP],
+    size: usize,
+) -> i64
+    requires { size ≤ 64 }
+    ensures { result ≡ folded_where fold word mask.now words.now size }
+{
+    let mut made = word;
+    for k in 0..size {
+        let next = folded_one(fold, made, words[k]);
+        made = chosen(mask[k], made, next);
+    }
+    made
+}
+
+/// The second of two words, unless the word of a mask is 0.
+#[inline(always)]
+pub(crate) fn chosen(mask: i64, first: i64, second: i64) -> i64
+    ensures { result ≡ (if int_eq mask (pos 0) then first else second) }
+{
+    if mask == 0 { first } else { second }
 }

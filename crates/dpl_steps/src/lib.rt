@@ -7,6 +7,7 @@
 // another (`AreDone`), those of a forall and those of a `for` (rows.rt).
 #![tactic(auto)]
 
+mod branch;
 mod change;
 mod context;
 mod declare;

@@ -1,14 +1,16 @@
-// The turns of a `for` that are made at once, along its range, as those of a forall are (turn.rt). Each of them does what it does where the
-// turns are made one after another, so it matters in no context that they are made so.
+// The turns of a `for` that are made at once, along its range or the rows of its domain, as those of a forall are (turn.rt). Each of them does
+// what it does where the turns are made one after another, so it matters in no context that they are made so.
 
 ghost use Rattle.std.specs.Prelude.{◌≡◌, ◌+◌, ◌≤◌, ◌<◌, drop, length};
 ghost use Rattle.dpl_sets.specs.Ranges.{members_of};
-ghost use Rattle.dpl_language.specs.Outcome.{Deeds};
+ghost use Rattle.dpl_sets.specs.Indices.{indices};
+ghost use Rattle.dpl_language.specs.Outcome.{Deeds, in_order};
 ghost use Rattle.dpl_standing.specs.Standing.{Standing};
 ghost use Rattle.dpl_readings.specs.Readings.{steps_in};
-ghost use Rattle.dpl_elements.specs.Turns.{in_turn, turn_in_memory};
+ghost use Rattle.dpl_elements.specs.Turns.{in_turn, index_turn, turn_in_memory};
 
 use crate::turn::make_row;
+use dpl_domain::Domain;
 use dpl_frame::{Arrays, Frame};
 use dpl_loop::Row;
 use dpl_nodes::{Names, Step};
@@ -61,6 +63,57 @@ pub(crate) fn rows<'t, A: Arrays>(
     let mut place = 0;
     while place < range.size() {
         let made = row(range, place, slot, body, frame);
+        if made == 0 {
+            return place;
+        }
+        place += made;
+    }
+    place
+}
+
+// How many turns are made at once from the index at a place of a domain on, along its row.
+fn domain_row<'t, A: Arrays>(
+    domain: &Domain,
+    place: u64,
+    names: &Names<'t>,
+    body: &[Step<'t>],
+    frame: &mut Frame<A>,
+) -> u64
+    requires { place < length (indices domain.now) }
+    ensures within { place + result ≤ length (indices domain.now) }
+    ensures goes { (w : Standing) (done : Deeds)
+        → in_order (index_turn frame.old.limits names.now (steps_in w body.now)) (drop (place + result) (indices domain.now)) frame.new.memory done
+        ≡ in_order (index_turn frame.old.limits names.now (steps_in w body.now)) (drop place (indices domain.now)) frame.old.memory done }
+    ensures limits { frame.new.limits ≡ frame.old.limits }
+{
+    let Some(index) = domain.nth(place) else {
+        unreachable!()
+    };
+    let (row, left) = Row::of(domain, index, place);
+    make_row(names, body, row, left as usize, frame) as u64
+}
+
+/// How many turns of a domain are made at once from its first index on, one row after another. Of a domain with short rows none are.
+#[inline(never)]
+pub(crate) fn domain_rows<'t, A: Arrays>(
+    domain: &Domain,
+    names: &Names<'t>,
+    body: &[Step<'t>],
+    frame: &mut Frame<A>,
+) -> u64
+    ensures within { result ≤ length (indices domain.now) }
+    ensures goes { (w : Standing) (done : Deeds)
+        → in_order (index_turn frame.old.limits names.now (steps_in w body.now)) (drop result (indices domain.now)) frame.new.memory done
+        ≡ in_order (index_turn frame.old.limits names.now (steps_in w body.now)) (indices domain.now) frame.old.memory done }
+    ensures limits { frame.new.limits ≡ frame.old.limits }
+{
+    let (_, _, inner) = domain.ranges();
+    if inner.size() < FEW {
+        return 0;
+    }
+    let mut place = 0;
+    while place < domain.size() {
+        let made = domain_row(domain, place, names, body, frame);
         if made == 0 {
             return place;
         }

@@ -1,7 +1,7 @@
 // Statements one after another, branches and loops.
 // A loop's size is tested once against the budget; then its turns are made one by one, or several at once (rows.rt).
 
-ghost use Rattle.std.specs.Prelude.{◌≡◌, ◌<◌, ℤ, Some, length, slice_get};
+ghost use Rattle.std.specs.Prelude.{◌≡◌, ◌<◌, ℤ, Some, drop, length, slice_get};
 ghost use Rattle.dpl_sets.specs.Ranges.{members_of};
 ghost use Rattle.dpl_language.specs.Outcome.{Deeds, repeated};
 ghost use Rattle.dpl_language.specs.Statements.{exec, exec_all, exec_else, holds};
@@ -20,7 +20,7 @@ ghost use Rattle.dpl_elements.specs.Turns.{in_turn, turn_in_memory, looped_over}
 
 use crate::context::Context;
 use crate::declare::declare_array;
-use crate::direct::{direct_statement, is_met};
+use crate::direct::{direct_statement, direct_statements, is_met};
 use crate::domain::{declare_domain, set_domain};
 use crate::each::for_each;
 use crate::rows::rows;
@@ -61,6 +61,7 @@ pub fn range_indices<G: Team>(
 /// The first fault, behind what was printed before it; out of memory, a worker was not started, or a gate refused an entry, and then
 /// nothing is said of the frame and of what is printed.
 #[cycle(run)]
+#[inline(always)]
 pub fn run<'t, C: Context>(
     steps: &[Step<'t>],
     context: &C,
@@ -72,9 +73,32 @@ pub fn run<'t, C: Context>(
         (exec_all frame.old.limits in_memory (steps_in C.standing steps.now) frame.old.memory (C.having out.old done)) }
     ensures limits { frame.new.limits ≡ frame.old.limits }
 {
-    for step in steps {
-        if !direct_statement(step, frame) {
-            statement(step, context, frame, out)?;
+    let made = direct_statements(steps, frame);
+    if made == steps.len() {
+        return Ok(());
+    }
+    walk(steps, made, context, frame, out)
+}
+
+// The statements from a place on; of the first it is known that it isn't done directly. The room for what a statement may stop with is here,
+// and whoever runs statements that are all done directly never enters.
+#[cycle(run)]
+#[inline(never)]
+fn walk<'t, C: Context>(
+    steps: &[Step<'t>],
+    first: usize,
+    context: &C,
+    frame: &mut Frame<C::Kept>,
+    out: &mut C::Out,
+) -> Result<(), RunStop>
+    requires ready { C.is_ready context.now }
+    ensures ends { (done : Deeds) → RunsTo (MayRefuseSome (C.may_refuse context.now)) result frame.new.memory (C.having out.new done)
+        (exec_all frame.old.limits in_memory (steps_in C.standing (drop first steps.now)) frame.old.memory (C.having out.old done)) }
+    ensures limits { frame.new.limits ≡ frame.old.limits }
+{
+    for k in first..steps.len() {
+        if k == first || !direct_statement(&steps[k], frame) {
+            statement(&steps[k], context, frame, out)?;
         }
     }
     Ok(())

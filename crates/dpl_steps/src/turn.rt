@@ -1,5 +1,6 @@
 // Turns of a loop that are made at once, along a row of indices: those whose body is one assignment to an element, or folds an int onto
 // one that is no variable of the loop. The right sides are evaluated for several turns, and then put along a row, or folded one after another.
+// Where the body is an `if` around such a statement, that is done where its condition holds (branch.rt).
 
 ghost use Rattle.std.specs.Prelude.{◌≡◌, ◌≤◌, true, false};
 ghost use Rattle.dpl_array.specs.Elements.{behind};
@@ -12,6 +13,7 @@ ghost use Rattle.dpl_loop.specs.Runs.{AreDone};
 ghost use Rattle.dpl_readings.specs.Readings.{steps_in};
 ghost use Rattle.dpl_elements.specs.Turns.{HasRoom, IsApart, index_turn};
 
+use crate::branch::if_row;
 use crate::each::bind;
 use crate::fold::{fold_of, folded};
 use dpl_domain::Index;
@@ -23,8 +25,8 @@ use dpl_strips::index::{coordinate, plane, space};
 use dpl_strips::{Target, turn_ints, turn_row, turn_truths};
 use dpl_tree::Assign;
 
-// Whether the last coordinate of a row's indices stays in its word through a whole strip.
-fn has_room(row: Row) -> bool
+/// Whether the last coordinate of a row's indices stays in its word through a whole strip.
+pub(crate) fn has_room(row: Row) -> bool
     ensures { result ≡ true → HasRoom row 64 }
 {
     let first = row.first();
@@ -40,8 +42,8 @@ fn has_room(row: Row) -> bool
     true
 }
 
-// The index of a row that stands so many behind its first.
-fn behind(row: Row, k: usize) -> Index
+/// The index of a row that stands so many behind its first.
+pub(crate) fn behind(row: Row, k: usize) -> Index
     requires most { k ≤ 64 }
     requires room { HasRoom row 64 }
     ensures { result ≡ behind k row }
@@ -126,8 +128,8 @@ fn truth_row<'t, A: Arrays>(
     made
 }
 
-// Whether a variable of the loop is the int in a slot.
-fn is_variable(names: &Names<'_>, slot: usize) -> bool
+/// Whether a variable of the loop is the int in a slot.
+pub(crate) fn is_variable(names: &Names<'_>, slot: usize) -> bool
     ensures { result ≡ false → IsApart names.now slot }
 {
     match names {
@@ -171,8 +173,9 @@ fn fold_row<'t, A: Arrays>(
     made
 }
 
-/// Makes the turns of a row's indices, at most so many, where the body is one assignment to an element, or folds an int onto another one, and
-/// its right sides are found several at once; how many. They are what they are wherever the loop stands.
+/// Makes the turns of a row's indices, at most so many, where the body is one assignment to an element, or folds an int onto another one, or
+/// does one of these where a condition holds, and its right sides, and conditions, are found several at once; how many. They are what they are
+/// wherever the loop stands.
 pub fn make_row<'t, A: Arrays>(
     names: &Names<'t>,
     body: &[Step<'t>],
@@ -195,6 +198,7 @@ pub fn make_row<'t, A: Arrays>(
         Step::Truth(TruthTarget::Element(name, index), e) => {
             truth_row(names, name, index, e, row, most, frame)
         }
+        Step::If { .. } => if_row(step, names, row, most, frame),
         _ => 0,
     }
 }

@@ -4,6 +4,7 @@ use Rattle.std.proofs.lemmas.List.{drop_all}
 use Rattle.std.proofs.lemmas.Option.{slice_get-get_or}
 use Rattle.std.proofs.lemmas.Result.{err_from_is_err_and}
 use Rattle.dpl_sets.specs.Ranges.{members_of}
+use Rattle.dpl_sets.specs.Indices.{indices}
 use Rattle.dpl_language.specs.Tree.{One, Set}
 use Rattle.dpl_language.specs.Values.{Truth}
 use Rattle.dpl_language.specs.Outcome.{then_do, in_order, repeated}
@@ -24,7 +25,7 @@ use Rattle.dpl_values.specs.Reductions.{EachInInts, EachInTruths, EachInRange, E
 use Rattle.dpl_elements.proofs.Dealing.{ends-wider, some-of-whole}
 use Rattle.dpl_steps.proofs.Refusing.{some-of-forall, some-of-array}
 use Rattle.dpl_elements.proofs.Changing.{gives-halts, exec-declared, exec-assigned}
-use Rattle.dpl_steps.proofs.Looping.{in_order-done, in_order-halts, for-domain, scoped-same, in_turn-done, in_turn-halts, for-turns, repeated-fault, repeated-ends, repeated-step, holds-value, holds-fault, if-then, exec-while}
+use Rattle.dpl_steps.proofs.Looping.{exec_all-rest, exec_all-whole, in_order-done, in_order-halts, for-domain, scoped-same, in_turn-done, in_turn-halts, for-turns, repeated-fault, repeated-ends, repeated-step, holds-value, holds-fault, if-then, exec-while}
 use Rattle.dpl_readings.proofs.Views.{for_each_in, forall_in, block_in, if_in, while_in, for_in, forall_line_in}
 use Rattle.dpl_steps.proofs.+run.Goals as goal
 
@@ -428,6 +429,20 @@ each::for_each-returns-clause-ends g t c done =
     ends-alike _ c.domain_turns.result c.domain_turns.new.frame.memory (having c.domain_turns.new.out done) _ _
     (for-domain c.args.frame.now.limits c.args.names.now (steps_in standing c.args.body.now) c.args.at.now (One (domain_view c.args.over.now)) c.args.frame.now.memory (having c.args.out.now done) rs c.in_ok-domain.ensures)
     (c.domain_turns.ensures.ends done)
+
+pub each::domain_turns-loop-index-init : goal.each::domain_turns-loop-index-init
+each::domain_turns-loop-index-init g t c =
+    let having = g.C.Context.having in
+    let standing = g.C.Context.standing in
+    let turn = index_turn c.args.frame.now.limits c.args.names.now (steps_in standing c.args.body.now) in
+    record {
+      ends = λ done.
+          let d = having c.args.out.now done in
+          ap (λ ts. in_order turn ts c.domain_rows-made.new.frame.memory d) c.indices_behind-indices.ensures
+          ∙ c.domain_rows-made.ensures.goes standing d
+          ∙ ap (λ rs. in_order turn (indices rs) c.args.frame.now.memory d) c.domain-over.ensures.domain;
+      limits = c.domain_rows-made.ensures.limits;
+    }
 
 pub each::domain_turns-returns-in_err-domain_turn-clause-ends : goal.each::domain_turns-returns-in_err-domain_turn-clause-ends
 each::domain_turns-returns-in_err-domain_turn-clause-ends g t c done =

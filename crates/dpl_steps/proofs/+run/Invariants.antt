@@ -10,11 +10,11 @@ use Rattle.dpl_elements.specs.Turns.{in_turn, turn_in_memory, index_turn}
 use Rattle.dpl_steps.proofs.+run.Given as goal
 
 -- what is left to run, from here, is what was to run at first
-abbrev pub invariant-statement::run-loop-step : goal.invariant-statement::run-loop-step
-invariant-statement::run-loop-step g l = record {
+abbrev pub invariant-statement::walk-loop-k : goal.invariant-statement::walk-loop-k
+invariant-statement::walk-loop-k g l = record {
   ends : (done : Deeds) → let limits = l.initial.frame.limits in
-      exec_all limits in_memory (steps_in g.C.Context.standing (drop l.step-index l.steps)) l.frame.memory (g.C.Context.having l.out done)
-      ≡ exec_all limits in_memory (steps_in g.C.Context.standing l.steps) l.initial.frame.memory (g.C.Context.having l.initial.out done);
+      exec_all limits in_memory (steps_in g.C.Context.standing (drop l.k l.steps)) l.frame.memory (g.C.Context.having l.out done)
+      ≡ exec_all limits in_memory (steps_in g.C.Context.standing (drop l.first l.steps)) l.initial.frame.memory (g.C.Context.having l.initial.out done);
   limits : l.frame.limits ≡ l.initial.frame.limits;
 }
 
@@ -52,10 +52,10 @@ invariant-statement::turns-loop-k g l = record {
 -- the indices that are left, from here, are all indices from the start
 abbrev pub invariant-each::domain_turns-loop-index : goal.invariant-each::domain_turns-loop-index
 invariant-each::domain_turns-loop-index g l = record {
-  ends : (done : Deeds) → let turn = index_turn l.initial.frame.limits l.names (steps_in g.C.Context.standing l.body) in
+  ends : (done : Deeds) → let turn = index_turn l.fn.frame.limits l.names (steps_in g.C.Context.standing l.body) in
       in_order turn l.indices l.frame.memory (g.C.Context.having l.out done)
-      ≡ in_order turn (indices_in l.fn.domain) l.initial.frame.memory (g.C.Context.having l.initial.out done);
-  limits : l.frame.limits ≡ l.initial.frame.limits;
+      ≡ in_order turn (indices_in l.fn.domain) l.fn.frame.memory (g.C.Context.having l.fn.out done);
+  limits : l.frame.limits ≡ l.fn.frame.limits;
 }
 
 abbrev pub decreases-each::domain_turns-loop-index : goal.decreases-each::domain_turns-loop-index
