@@ -90,7 +90,7 @@ plan-deals t sets limits slots scopes steps spelt untasked unrefused nodes fit b
     let plan : IsPlan t slots scopes steps = planned t slots scopes steps nodes fit behind plain in
     program-deals t sets limits slots scopes steps spelt untasked (walk-unbroken t sound)
     (fit (start_by t sets slots scopes) (le_refl slots) (are-given (start_by t sets slots scopes) scopes (alike t sets slots scopes steps plan (sets-fit t sets unrefused)))) nodes
-    (plan-stands t sets steps untasked unrefused nodes)
+    (plan-stands t sets slots scopes steps plan untasked unrefused)
 
 -- ---- the foralls that are counted: those on record, which are those that the run by names enters
 pair-map : {A B C : Type 0} (R : A → C → Type 0) (Q : B → C → Type 0) (f : A → B) → ((x : A) (z : C) → R x z → Q (f x) z)

@@ -9,6 +9,7 @@ pub mod Planned
 pub mod Standing
 pub mod Ends
 pub mod Meaning
+pub mod Elsewhere
 pub mod Stages
 pub mod Runnable
 pub mod Declared

@@ -1,0 +1,22 @@
+-- A program that has no refusal can be elaborated, and is sound.
+use Rattle.std.proofs.Common.{◌≡◌, ◌∙◌, map, sym}
+use Rattle.dpl_tree.specs.Statements.{program_view}
+use Rattle.dpl_run.specs.Headline.{IsProgram}
+use Rattle.dpl_run.proofs.Runnable.{program-opens, program-allowed}
+use Rattle.dpl_run.proofs.checking.check.Goals as goal
+
+pub elaborate-requires : goal.elaborate-requires
+elaborate-requires c κs within =
+    let s = c.requires in
+    let t = program_view c.args.program.now in
+    let sets = map (λ set. set.now) c.args.sets.now in
+    let is : IsProgram s.0 sets t = record { tokens = c.args.tokens.now; lexes = s.1; spells = s.2; unrefused = sym c.in_ok-tree_refusal.ensures ∙ c.in-None.is } in
+    program-opens s.0 sets t is
+
+pub returns-clause-allowed : goal.returns-clause-allowed
+returns-clause-allowed c =
+    let s = c.requires in
+    let t = program_view c.args.program.now in
+    let sets = map (λ set. set.now) c.args.sets.now in
+    let is : IsProgram s.0 sets t = record { tokens = c.args.tokens.now; lexes = s.1; spells = s.2; unrefused = sym c.in_ok-tree_refusal.ensures ∙ c.in-None.is } in
+    program-allowed s.0 sets t is
