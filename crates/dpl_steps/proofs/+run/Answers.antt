@@ -25,7 +25,8 @@ use Rattle.dpl_values.specs.Reductions.{EachInInts, EachInTruths, EachInRange, E
 use Rattle.dpl_elements.proofs.Dealing.{ends-wider, some-of-whole}
 use Rattle.dpl_steps.proofs.Refusing.{some-of-forall, some-of-array}
 use Rattle.dpl_elements.proofs.Changing.{gives-halts, exec-declared, exec-assigned}
-use Rattle.dpl_steps.proofs.Looping.{exec_all-rest, exec_all-whole, in_order-done, in_order-halts, for-domain, scoped-same, in_turn-done, in_turn-halts, for-turns, repeated-fault, repeated-ends, repeated-step, holds-value, holds-fault, if-then, exec-while}
+use Rattle.dpl_steps.proofs.Looping.{exec_all-rest, exec_all-whole, in_order-done, in_order-halts, for-domain, in_turn-done, in_turn-halts, for-turns, repeated-fault, repeated-ends, repeated-step, holds-fault, exec-while}
+use Rattle.dpl_batches.proofs.Branching.{scoped-same, holds-value, if-then}
 use Rattle.dpl_readings.proofs.Views.{for_each_in, forall_in, block_in, if_in, while_in, for_in, forall_line_in}
 use Rattle.dpl_steps.proofs.+run.Goals as goal
 
@@ -108,7 +109,7 @@ pub statement::turns-loop-k-init : goal.statement::turns-loop-k-init
 statement::turns-loop-k-init g t c =
     let having = g.C.Context.having in
     let standing = g.C.Context.standing in
-    record { ends = λ done. c.rows-made.ensures.goes standing (having c.args.out.now done); limits = c.rows-made.ensures.limits }
+    record { ends = λ done. c.in-Ok.ensures.goes standing (having c.args.out.now done); limits = c.in-Ok.ensures.limits }
 
 pub statement::turns-loop-k-preserved : goal.statement::turns-loop-k-preserved
 statement::turns-loop-k-preserved g t c =
@@ -438,10 +439,10 @@ each::domain_turns-loop-index-init g t c =
     record {
       ends = λ done.
           let d = having c.args.out.now done in
-          ap (λ ts. in_order turn ts c.domain_rows-made.new.frame.memory d) c.indices_behind-indices.ensures
-          ∙ c.domain_rows-made.ensures.goes standing d
+          ap (λ ts. in_order turn ts c.domain_rows.new.frame.memory d) c.indices_behind-indices.ensures
+          ∙ c.in-Ok.ensures.goes standing d
           ∙ ap (λ rs. in_order turn (indices rs) c.args.frame.now.memory d) c.domain-over.ensures.domain;
-      limits = c.domain_rows-made.ensures.limits;
+      limits = c.in-Ok.ensures.limits;
     }
 
 pub each::domain_turns-returns-in_err-domain_turn-clause-ends : goal.each::domain_turns-returns-in_err-domain_turn-clause-ends
@@ -486,7 +487,7 @@ each::domain_turns-returns-clause-ends g t c done =
     let having = g.C.Context.having in
     let standing = g.C.Context.standing in
     let limits = c.args.frame.now.limits in
-    let none = walk-end c.loop-index.indices (sym c.in_default.ensures.next) in
+    let none = walk-end c.loop-index.indices (sym c.in_default-next.ensures.next) in
     sym (c.loop-index.invariant.ends done) ∙ ap (λ ts. in_order (index_turn limits c.args.names.now (steps_in standing c.args.body.now)) ts c.loop-index.frame.memory (having c.loop-index.out done)) none
 
 pub each::domain_turn-returns-clause-limits : goal.each::domain_turn-returns-clause-limits
