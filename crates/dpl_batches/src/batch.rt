@@ -294,6 +294,50 @@ fn made<'t, A: Arrays>(
     Ok(size)
 }
 
+// The same by one store. The room for stores is cleared at the entry of the function that has it, so there are two of them.
+#[inline(never)]
+fn by_one<'t, A: Arrays>(
+    names: &Names<'t>,
+    body: &[Step<'t>],
+    row: Row,
+    most: usize,
+    variable: Variable,
+    frame: &mut Frame<A>,
+) -> Result<usize, AllocError>
+    ensures most { IfOk result (λ made. made ≤ most) }
+    ensures done { (w : Standing) → IfOk result (λ made.
+        AreDone (index_turn frame.old.limits names.now (steps_in w body.now)) row made frame.old.memory frame.new.memory) }
+    ensures limits { frame.new.limits ≡ frame.old.limits }
+{
+    let mut stores = [Store::unmade(variable)];
+    made(names, body, row, most, &mut stores, frame)
+}
+
+// And by the first of these variables, so many.
+#[inline(never)]
+fn by_some<'t, A: Arrays>(
+    names: &Names<'t>,
+    body: &[Step<'t>],
+    row: Row,
+    most: usize,
+    found: &[Variable; MOST],
+    count: usize,
+    frame: &mut Frame<A>,
+) -> Result<usize, AllocError>
+    requires { count ≤ 4 }
+    ensures most { IfOk result (λ made. made ≤ most) }
+    ensures done { (w : Standing) → IfOk result (λ made.
+        AreDone (index_turn frame.old.limits names.now (steps_in w body.now)) row made frame.old.memory frame.new.memory) }
+    ensures limits { frame.new.limits ≡ frame.old.limits }
+{
+    let mut stores = [Store::unmade(found[0]); MOST];
+    for k in 1..MOST {
+        stores[k].slot = found[k].slot;
+        stores[k].at = found[k].at;
+    }
+    made(names, body, row, most, &mut stores[..count], frame)
+}
+
 /// Makes the turns of a row's indices, at most so many, where each of their statements is found several turns at once; how many.
 ///
 /// # Errors
@@ -314,17 +358,9 @@ pub(crate) fn make_batch<'t, A: Arrays>(
     let Some(count) = all_written(body, names, row, frame, &mut found, 0) else {
         return Ok(0);
     };
-    // The room for stores is cleared where it is made, so there is no more of it than is asked for.
     if count == 1 {
-        let mut stores = [Store::unmade(found[0])];
-        made(names, body, row, most, &mut stores, frame)
+        by_one(names, body, row, most, found[0], frame)
     } else {
-        let mut stores = [
-            Store::unmade(found[0]),
-            Store::unmade(found[1]),
-            Store::unmade(found[2]),
-            Store::unmade(found[3]),
-        ];
-        made(names, body, row, most, &mut stores[..count], frame)
+        by_some(names, body, row, most, &found, count, frame)
     }
 }
