@@ -8,5 +8,7 @@ pub mod Refusals
 pub mod Folded
 -- Statements that are done where a condition holds, and words that are put where it does.
 pub mod Branches
+-- What turns leave in variables, kept back until all their statements are found.
+pub mod Stores
 -- What a context is made with, of the crates below.
 pub mod Contexts

@@ -1,6 +1,6 @@
 -- Ints of several indices at once, and how far turns may change a memory before they are used.
 -- A strip is evaluated before those turns, and each of its ints is the value in the turn of its index all the same.
-use Rattle.std.specs.Prelude.{◌≡◌, ◌≢◌, ◌<◌, ℕ, ℤ, pos, ◌+ℤ◌, ◌-ℤ◌, ◌*ℤ◌, List, [], ◌∷◌, length, get_or, set, None, Result, Ok, FitsSigned, Option, IfSome}
+use Rattle.std.specs.Prelude.{◌≡◌, ◌≢◌, ◌<◌, ℕ, ℤ, pos, ◌+ℤ◌, ◌-ℤ◌, ◌*ℤ◌, List, [], ◌∷◌, map, length, get_or, set, Some, None, Result, Ok, FitsSigned, Option, option_map, IfSome}
 use Rattle.std.specs.Int.{w64}
 use Rattle.dpl_array.specs.Elements.{Row, behind}
 use Rattle.dpl_language.specs.Tree.{Infix, Add, Subtract, Multiply}
@@ -43,22 +43,49 @@ HoldsWhere Suits meaning strip = HoldWhere Suits meaning strip.row strip.size (�
 abbrev pub HoldsAtIndices : (Index → Memory → Result Value Fault) → Memory → Strip → Type 0
 HoldsAtIndices meaning s strip = HoldsWhere (λ row k u. IsSameAt (behind k row) s u) meaning strip
 
--- a memory in the turn of an index: the variables of the loop hold the index, and else the word and the array of one slot alone may have
--- changed
-pub record IsInTurn (names : Names) (target : ℕ) (t : Index) (s u : Memory) : Type 0 where
-  pub numbers : (slot : ℕ) → slot ≢ target
+-- what turns write: the word in a slot, or of the array in it one element each, at the indices of a row, turn by turn; and what these elements
+-- are by now, where statements of the turns have been found before they are done
+pub record Written : Type 0 where
+  pub slot : ℕ
+  pub at : Row
+  pub words : Option (List ℤ)
+
+abbrev pub written : Target → Written
+written x = record { slot = x.slot; at = x.at; words = option_map (λ ws. ws.now) x.words }
+
+-- they don't write what is in a slot
+abbrev pub IsFree : List Written → ℕ → Type 0
+IsFree [] slot = Unit {0}
+IsFree (x ∷ xs) slot = (slot ≢ x.slot) × IsFree xs slot
+
+-- a memory in the turn of an index: the variables of the loop hold the index, and else the words and the arrays alone may have changed that
+-- the turns write
+pub record IsInTurn (names : Names) (xs : List Written) (t : Index) (s u : Memory) : Type 0 where
+  pub numbers : (slot : ℕ) → IsFree xs slot
       → get_or u.words.numbers slot (pos 0) ≡ get_or (bound_to in_memory (names_view names) (Domain []) t s).words.numbers slot (pos 0)
   pub tuples : (slot : ℕ) → get_or u.tuples slot no_tuple ≡ get_or (bound_to in_memory (names_view names) (Domain []) t s).tuples slot no_tuple
-  pub arrays : (slot : ℕ) → slot ≢ target → array_at slot u ≡ array_at slot s
+  pub arrays : (slot : ℕ) → IsFree xs slot → array_at slot u ≡ array_at slot s
 
--- and in the k-th turn of a row, before it writes: of the array that the turns write, its own element hasn't changed
-pub record IsInOwnTurn (names : Names) (target : Target) (row : Row) (k : ℕ) (s u : Memory) : Type 0 where
-  pub turn : IsInTurn names target.slot (behind k row) s u
-  pub own : held_at (behind k target.at) (array_at target.slot u) ≡ held_at (behind k target.at) (array_at target.slot s)
+-- what the k-th turn finds at its own element of an array that the turns write
+abbrev pub own_word : Written → ℕ → Memory → Option ℤ
+own_word x k s = own_of x.words x k s
+  where
+    own_of : Option (List ℤ) → Written → ℕ → Memory → Option ℤ
+    own_of None x k s = held_at (behind k x.at) (array_at x.slot s)
+    own_of (Some ws) x k s = Some (get_or ws k (pos 0))
+
+abbrev pub OwnWords : List Written → ℕ → Memory → Memory → Type 0
+OwnWords [] k s u = Unit {0}
+OwnWords (x ∷ xs) k s u = (held_at (behind k x.at) (array_at x.slot u) ≡ own_word x k s) × OwnWords xs k s u
+
+-- and in the k-th turn of a row, before it writes: of each array that the turns write, its own element is as it was, or as it was found
+pub record IsInOwnTurn (names : Names) (xs : List Written) (row : Row) (k : ℕ) (s u : Memory) : Type 0 where
+  pub turn : IsInTurn names xs (behind k row) s u
+  pub own : OwnWords xs k s u
 
 -- each int of a strip is the value in the turn of its index
-abbrev pub HoldsInTurns : Names → Target → (Memory → Result Value Fault) → Memory → Strip → Type 0
-HoldsInTurns names target meaning s strip = HoldsWhere (λ row k u. IsInOwnTurn names target row k s u) (λ t u. meaning u) strip
+abbrev pub HoldsInTurns : Names → List Written → (Memory → Result Value Fault) → Memory → Strip → Type 0
+HoldsInTurns names xs meaning s strip = HoldsWhere (λ row k u. IsInOwnTurn names xs row k s u) (λ t u. meaning u) strip
 
 -- OPERATORS that have no fault: how they stand in a tree, and what they make of two ints
 abbrev pub infix_of : Wrapping → Infix
@@ -119,13 +146,13 @@ abbrev pub turn_numbers : Names → Row → Memory → ℕ → List ℤ
 turn_numbers names row s k = (bound_to in_memory (names_view names) (Domain []) (behind k row) s).words.numbers
 
 -- an int goes so through the turns of a row's indices
-abbrev pub GoesAt : Limits → Names → ℕ → Row → Memory → IntExpr → Pace → Type 0
-GoesAt limits names target row s e pace =
-    (k : ℕ) → k < 64 → (u : Memory) → IsInTurn names target (behind k row) s u
+abbrev pub GoesAt : Limits → Names → List Written → Row → Memory → IntExpr → Pace → Type 0
+GoesAt limits names xs row s e pace =
+    (k : ℕ) → k < 64 → (u : Memory) → IsInTurn names xs (behind k row) s u
     → value_of limits in_memory (int_view e) None u ≡ Ok (Int (paced row.step pace k))
 
 -- the index that is found in a turn lies as far behind another as the turn behind the first
-abbrev pub GoesFrom : Limits → Names → ℕ → Row → Memory → IndexExpr → Row → Type 0
-GoesFrom limits names target row s index at =
-    (k : ℕ) → k < 64 → (u : Memory) → IsInTurn names target (behind k row) s u
+abbrev pub GoesFrom : Limits → Names → List Written → Row → Memory → IndexExpr → Row → Type 0
+GoesFrom limits names xs row s index at =
+    (k : ℕ) → k < 64 → (u : Memory) → IsInTurn names xs (behind k row) s u
     → with_ok (values_of limits in_memory (index_exprs index) u) (λ vs. Ok (index_of vs)) ≡ Ok (behind k at)

@@ -10,24 +10,23 @@ use Rattle.dpl_nodes.specs.declared.step.Names.{Names}
 use Rattle.dpl_nodes.specs.declared.tree.Comparison.{Comparison}
 use Rattle.dpl_nodes.specs.declared.tree.Comparison.TheVariants as comparison
 use Rattle.dpl_loop.specs.declared.strip.Strip.{Strip}
-use Rattle.dpl_strips.specs.declared.target.Target.{Target}
 use Rattle.dpl_strips.specs.declared.truth_strips.Junction.{Junction}
 use Rattle.dpl_strips.specs.declared.truth_strips.Junction.TheVariants as junction
-use Rattle.dpl_strips.specs.Strips.{IsInOwnTurn}
+use Rattle.dpl_strips.specs.Strips.{Written, IsInOwnTurn}
 
 -- a word is that of a truth value, which is what is meant in each memory that suits
 abbrev pub IsTruthWord : (Memory → Type 0) → (Memory → Result Value Fault) → ℤ → Type 0
 IsTruthWord suits meaning word = (b : Bool) × (word ≡ kept_number (Truth b)) × ((u : Memory) → suits u → meaning u ≡ Ok (Truth b))
 
 -- each word of a strip is the truth value in the turn of its index
-abbrev pub TruthsHoldInTurns : Names → Target → (Memory → Result Value Fault) → Memory → Strip → Type 0
-TruthsHoldInTurns names target meaning s strip =
-    (k : ℕ) → k < strip.size → k < 64 → IsTruthWord (IsInOwnTurn names target strip.row k s) meaning (get_or strip.words k (pos 0))
+abbrev pub TruthsHoldInTurns : Names → List Written → (Memory → Result Value Fault) → Memory → Strip → Type 0
+TruthsHoldInTurns names xs meaning s strip =
+    (k : ℕ) → k < strip.size → k < 64 → IsTruthWord (IsInOwnTurn names xs strip.row k s) meaning (get_or strip.words k (pos 0))
 
 -- each of some words is the element that is meant in the turn of its index, by the kind of its array
-abbrev pub ElementsInTurns : Names → Target → (Memory → Result Value Fault) → Kind → Row → Memory → List ℤ → Type 0
-ElementsInTurns names target meaning kind row s words =
-    (k : ℕ) → k < length words → k < 64 → (u : Memory) → IsInOwnTurn names target row k s u → meaning u ≡ Ok (element_as kind (get_or words k (pos 0)))
+abbrev pub ElementsInTurns : Names → List Written → (Memory → Result Value Fault) → Kind → Row → Memory → List ℤ → Type 0
+ElementsInTurns names xs meaning kind row s words =
+    (k : ℕ) → k < length words → k < 64 → (u : Memory) → IsInOwnTurn names xs row k s u → meaning u ≡ Ok (element_as kind (get_or words k (pos 0)))
 
 -- OPERATORS: how they stand in a tree, and what they make of two truth values, or of two ints
 abbrev pub junction_view : Junction → Infix

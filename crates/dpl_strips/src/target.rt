@@ -1,10 +1,27 @@
 // What the turns of a row's indices write, which strips must not read but where each turn has it for itself.
 
+ghost use Rattle.std.specs.Prelude.{◌≡◌, false, map};
+ghost use Rattle.dpl_strips.specs.Strips.{written, IsFree};
+
 use dpl_array::Row;
 
-/// What turns write: the word in a slot; and of the array in it one element each, at the indices of a row, turn by turn.
-#[derive(Drop)]
-pub struct Target {
+/// What turns write: the word in a slot; and of the array in it one element each, at the indices of a row, turn by turn. Where statements
+/// of the turns have been found before they are done, the words are what these elements are by now.
+#[derive(Clone, Copy)]
+pub struct Target<'w> {
     pub slot: usize,
     pub at: Row,
+    pub words: Option<&'w [i64]>,
+}
+
+/// Whether turns write what is in a slot.
+pub(crate) fn is_written(targets: &[Target<'_>], slot: usize) -> bool
+    ensures { result ≡ false → IsFree (map written targets.now) slot }
+{
+    for target in targets {
+        if target.slot == slot {
+            return true;
+        }
+    }
+    false
 }
