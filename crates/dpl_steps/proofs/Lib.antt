@@ -4,7 +4,5 @@ pub mod Tested
 pub mod Gathered
 pub mod ArrayItems
 pub mod Refusing
-pub mod FoldedTurns
-pub mod BranchTurns
 pub mod Rooms
 pub mod Contexts

@@ -34,22 +34,14 @@ use Rattle.dpl_loop.specs.declared.stop.RunStop.{RunStop}
 use Rattle.dpl_loop.specs.Runs.{AreDone, RunsTo}
 use Rattle.dpl_loop.proofs.Ends.{then_do-halts, halts-alike}
 use Rattle.dpl_loop.proofs.Order.{order-done}
+use Rattle.dpl_batches.proofs.Branching.{scoped-same}
 use Rattle.dpl_elements.specs.Turns.{in_turn, turn_in_memory, bound_at, index_turn, within, looped_over}
 
 -- RUNS ONE AFTER ANOTHER
-then_do-done : (o : Outcome Memory) → then_do o (λ s done. Done s done) ≡ o
-then_do-done (Done s done) = refl
-then_do-done (Stop f done) = refl
-then_do-done (Waits at c op done) = refl
-
 then_do-same : (o : Outcome Memory) (f g : Run Memory) → ((s : Memory) (done : Deeds) → f s done ≡ g s done) → then_do o f ≡ then_do o g
 then_do-same (Done s done) f g same = same s done
 then_do-same (Stop f done) g h same = refl
 then_do-same (Waits at c op done) f g same = refl
-
--- a scope does nothing of its own
-pub scoped-same : (body : Run Memory) (s : Memory) (done : Deeds) → scoped in_memory body s done ≡ body s done
-scoped-same body s done = then_do-done (body s done)
 
 -- statements of which the first are done come to what the others come to
 pub exec_all-rest : (before limits : Limits) (w : Standing) (steps : List Step) (k : ℕ) (s next : Memory) (done : Deeds)
@@ -304,22 +296,8 @@ module _ (at : Place) (test : Memory → Result Bool Fault) (body : Run Memory) 
 
 -- CONDITIONS
 module _ (limits : Limits) where
-  pub holds-value : (e : ExprTree Variable) (s : Memory) (b : Bool) → value_of limits in_memory e None s ≡ Ok (Truth b) → holds limits in_memory e s ≡ Ok b
-  holds-value e s b value = ap (λ r. with_ok r (λ v. Ok (truth v))) value
-
   pub holds-fault : (e : ExprTree Variable) (s : Memory) (f : Fault) → value_of limits in_memory e None s ≡ Err f → holds limits in_memory e s ≡ Err f
   holds-fault e s f value = ap (λ r. with_ok r (λ v. Ok (truth v))) value
-
-  pub if-then : (e : ExprTree Variable) (body : Stmts Variable) (other : Else Variable) (s : Memory) (done : Deeds) → value_of limits in_memory e None s ≡ Ok (Truth true)
-      → exec limits in_memory (If nowhere e (listed body) other) s done ≡ exec_all limits in_memory body s done
-  if-then e body other s done value =
-      ap (λ r. with_value r (λ b. choose b (scoped in_memory (exec_all limits in_memory body)) (exec_else limits in_memory other)) s done) (holds-value e s true value)
-      ∙ scoped-same (exec_all limits in_memory body) s done
-
-  pub if-else : (e : ExprTree Variable) (body : Stmts Variable) (other : Else Variable) (s : Memory) (done : Deeds) → value_of limits in_memory e None s ≡ Ok (Truth false)
-      → exec limits in_memory (If nowhere e (listed body) other) s done ≡ exec_else limits in_memory other s done
-  if-else e body other s done value =
-      ap (λ r. with_value r (λ b. choose b (scoped in_memory (exec_all limits in_memory body)) (exec_else limits in_memory other)) s done) (holds-value e s false value)
 
   pub exec-while : (at : Place) (e : ExprTree Variable) (body : Stmts Variable) (s : Memory) (done : Deeds)
       → exec limits in_memory (While at e (listed body)) s done ≡ repeated limits.budget at (holds limits in_memory e) (exec_all limits in_memory body) s done

@@ -4,11 +4,5 @@ pub mod Runs
 pub mod Lineages
 -- Which entries a gate may refuse of one statement.
 pub mod Refusals
--- Ints that are folded onto a word, in turns that are made at once.
-pub mod Folded
--- Statements that are done where a condition holds, and words that are put where it does.
-pub mod Branches
--- What turns leave in variables, kept back until all their statements are found.
-pub mod Stores
 -- What a context is made with, of the crates below.
 pub mod Contexts

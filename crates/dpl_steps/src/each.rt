@@ -1,16 +1,15 @@
 // Loops over domains: the variables of a turn hold its index, as one int, as a tuple, or coordinate by coordinate.
 // Their turns run the same statements as those of loops over ranges, several at once as long as that goes (rows.rt).
 
-ghost use Rattle.std.specs.Prelude.{◌≡◌, pos, get_or, drop};
+ghost use Rattle.std.specs.Prelude.{◌≡◌, drop};
 ghost use Rattle.dpl_sets.specs.Indices.{indices};
 ghost use Rattle.dpl_language.specs.Tree.{One, For as ForTree};
-ghost use Rattle.dpl_language.specs.Values.{number, Domain as DomainValue};
-ghost use Rattle.dpl_language.specs.Ranges.{index_value, indices_in};
+ghost use Rattle.dpl_language.specs.Values.{Domain as DomainValue};
+ghost use Rattle.dpl_language.specs.Ranges.{indices_in};
 ghost use Rattle.dpl_language.specs.Outcome.{Deeds, in_order};
 ghost use Rattle.dpl_language.specs.Statements.{exec};
 ghost use Rattle.dpl_lowered.specs.Shapes.{nowhere};
 ghost use Rattle.dpl_memory.specs.Memory.{in_memory};
-ghost use Rattle.dpl_frame.specs.Frames.{with_memory};
 ghost use Rattle.dpl_nodes.specs.Typed.{domain_view};
 ghost use Rattle.dpl_nodes.specs.Steps.{listed, names_view};
 ghost use Rattle.dpl_loop.specs.Runs.{RunsTo};
@@ -18,11 +17,12 @@ ghost use Rattle.dpl_loop.specs.Entries.{MayRefuseSome};
 ghost use Rattle.dpl_loop.specs.Values.{Gives};
 ghost use Rattle.dpl_values.specs.Reductions.{MayRefuseReduction, EachInDomain};
 ghost use Rattle.dpl_readings.specs.Readings.{steps_in};
-ghost use Rattle.dpl_elements.specs.Turns.{each_bound, bound_at, index_turn, looped_over};
+ghost use Rattle.dpl_elements.specs.Turns.{index_turn, looped_over};
 
 use crate::context::Context;
 use crate::rows::domain_rows;
 use crate::statement::run;
+use dpl_batches::bind;
 use dpl_domain::{Cursor, Domain, Index};
 use dpl_frame::{Arrays, DomainWord, Frame, Trap};
 use dpl_loop::RunStop;
@@ -49,58 +49,6 @@ pub fn domain_indices<G: Team>(
     let domain = domain_value(over, frame, gate)?;
     within_budget(&domain, at, frame)?;
     Ok(domain)
-}
-
-// The coordinate in a dimension, and 0 past the last one.
-#[inline(always)]
-fn coordinate(index: Index, d: usize) -> i64
-    ensures { result ≡ get_or index d (pos 0) }
-{
-    let Ok(d) = u32::try_from(d) else {
-        return 0;
-    };
-    match index.coordinate(d) {
-        Some(i) => i,
-        None => 0,
-    }
-}
-
-// The coordinate of an index that has one; 0 of another.
-#[inline(always)]
-fn sole(index: Index) -> i64
-    ensures { result ≡ number (index_value index) }
-{
-    if index.rank() == 1 {
-        coordinate(index, 0)
-    } else {
-        0
-    }
-}
-
-// Puts the coordinates into slots, from the one in dimension 1 on.
-#[tactic(auto, using(dpl_elements::proofs::Binding::each_bound_at))]
-fn bind_others<A: Arrays>(others: &[usize], index: Index, frame: &mut Frame<A>)
-    ensures { frame.new ≡ with_memory (each_bound 1 others.now index frame.old.memory) frame.old }
-{
-    for k in 0..others.len() {
-        frame.set_number(others[k], coordinate(index, k + 1));
-    }
-}
-
-/// The variables of a turn hold its index.
-#[tactic(auto, using(dpl_elements::proofs::Binding::coordinates_index_value))]
-#[inline(always)]
-pub fn bind<A: Arrays>(names: &Names<'_>, index: Index, frame: &mut Frame<A>)
-    ensures { frame.new ≡ with_memory (bound_at names.now index frame.old.memory) frame.old }
-{
-    match names {
-        Names::Int(slot) => frame.set_number(*slot, sole(index)),
-        Names::Tuple(slot) => frame.set_tuple(*slot, index),
-        Names::Each(first, others) => {
-            frame.set_number(*first, coordinate(index, 0));
-            bind_others(others, index, frame);
-        }
-    }
 }
 
 // The turn of an index.

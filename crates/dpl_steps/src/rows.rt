@@ -1,4 +1,4 @@
-// The turns of a `for` that are made at once, along its range or the rows of its domain, as those of a forall are (turn.rt). Each of them does
+// The turns of a `for` that are made at once, along its range or the rows of its domain, as those of a forall are (dpl_batches). Each of them does
 // what it does where the turns are made one after another, so it matters in no context that they are made so.
 
 ghost use Rattle.std.specs.Prelude.{◌≡◌, ◌+◌, ◌≤◌, ◌<◌, drop, length};
@@ -9,7 +9,7 @@ ghost use Rattle.dpl_standing.specs.Standing.{Standing};
 ghost use Rattle.dpl_readings.specs.Readings.{steps_in};
 ghost use Rattle.dpl_elements.specs.Turns.{in_turn, index_turn, turn_in_memory};
 
-use crate::turn::make_row;
+use dpl_batches::make_row;
 use dpl_domain::Domain;
 use dpl_frame::{Arrays, Frame};
 use dpl_loop::Row;

@@ -14,7 +14,7 @@ use Rattle.dpl_readings.specs.Readings.{step_in, else_in, steps_in}
 use Rattle.dpl_readings.proofs.Views.{if_in}
 use Rattle.dpl_elements.specs.Changes.{ends_as}
 use Rattle.dpl_elements.proofs.Changing.{exec-int}
-use Rattle.dpl_steps.proofs.Looping.{if-then, if-else}
+use Rattle.dpl_batches.proofs.Branching.{if-then, if-else}
 use Rattle.dpl_steps.proofs.direct.+direct.Goals as goal
 
 pub direct_statement-returns-in-Some-clause-done : goal.direct_statement-returns-in-Some-clause-done

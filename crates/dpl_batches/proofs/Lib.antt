@@ -1,0 +1,3 @@
+-- What serves contracts and proofs alone.
+pub mod FoldedTurns
+pub mod Branching

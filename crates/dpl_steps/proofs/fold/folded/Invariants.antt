@@ -1,7 +1,0 @@
-use Rattle.std.proofs.Common.{◌≡◌}
-use Rattle.dpl_steps.specs.Folded.{folded_words}
-use Rattle.dpl_steps.proofs.fold.folded.Given as goal
-
--- the ints before the loop's are folded onto the word
-abbrev pub invariant-loop-k : goal.invariant-loop-k
-invariant-loop-k l = l.made ≡ folded_words l.fn.fold l.fn.word l.fn.words l.k

@@ -1,7 +1,0 @@
-use Rattle.std.proofs.Common.{◌≡◌}
-use Rattle.dpl_steps.specs.Folded.{folded_where}
-use Rattle.dpl_steps.proofs.fold.folded_where.Given as goal
-
--- the ints before the loop's are folded onto the word where the mask says so
-abbrev pub invariant-loop-k : goal.invariant-loop-k
-invariant-loop-k l = l.made ≡ folded_where l.fn.fold l.fn.word l.fn.mask l.fn.words l.k
