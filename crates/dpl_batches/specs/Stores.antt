@@ -14,7 +14,7 @@ use Rattle.dpl_memory.specs.Memory.{PlainKind, Variable, Memory, array_at, with_
 use Rattle.dpl_nodes.specs.declared.fold.IntFold.{IntFold}
 use Rattle.dpl_nodes.specs.declared.step.Names.{Names}
 use Rattle.dpl_strips.specs.Strips.{Written, IsFree, IsInOwnTurn}
-use Rattle.dpl_elements.specs.Turns.{IsApart}
+use Rattle.dpl_elements.specs.Turns.{IsApart, HasRoom}
 use Rattle.dpl_batches.specs.Folded.{folded_one_where}
 use Rattle.dpl_batches.specs.declared.store.Store.{Store}
 
@@ -57,6 +57,15 @@ each_stored (x ∷ xs) size s = each_stored xs size (stored_in_turns x size s)
 abbrev pub AreApart : Names → List Store → Type 0
 AreApart names [] = Unit {0}
 AreApart names (x ∷ xs) = IsFree (map unmade xs) x.slot × IsApart names x.slot × (0 < length x.at.first) × (x.at.step ≢ pos 0) × AreApart names xs
+
+-- and these indices stay in their words
+abbrev pub HaveRoom : List Store → Type 0
+HaveRoom [] = Unit {0}
+HaveRoom (x ∷ xs) = HasRoom x.at 64 × HaveRoom xs
+
+abbrev pub AreUnmade : List Store → Type 0
+AreUnmade [] = Unit {0}
+AreUnmade (x ∷ xs) = (x.is_made ≡ false) × AreUnmade xs
 
 -- a memory with which the k-th turn of a row begins, once the variables of the loop hold its index
 pub record Begins (names : Names) (xs : List Store) (row : Row) (k : ℕ) (s u : Memory) : Type 0 where
