@@ -263,7 +263,12 @@ pub(crate) fn make_batch<'t, A: Arrays>(
         let mut stores = [Store::unmade(&found[0])];
         made(names, body, row, most, &mut stores, frame)
     } else {
-        let mut stores = found.map(|target| Store::unmade(&target));
+        let mut stores = [
+            Store::unmade(&found[0]),
+            Store::unmade(&found[1]),
+            Store::unmade(&found[2]),
+            Store::unmade(&found[3]),
+        ];
         made(names, body, row, most, &mut stores[..count], frame)
     }
 }
