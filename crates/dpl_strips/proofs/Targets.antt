@@ -1,9 +1,9 @@
 -- What turns write, by the slot that it is in.
-use Rattle.std.proofs.Common.{◌≡◌, ◌≢◌, ◌==◌, if◌then◌else◌, ℕ, Bool, true, false, List, [], ◌∷◌, Option, Some, None, is_some, option_map, sym, subst}
+use Rattle.std.proofs.Common.{◌≡◌, ◌≢◌, ◌==◌, if◌then◌else◌, ℕ, ℤ, pos, Bool, true, false, List, [], ◌∷◌, get_or, Option, Some, None, is_some, option_map, refl, sym, subst, ap, ◌∙◌}
 use Rattle.std.specs.Bool.{Decides}
 use Rattle.std.proofs.lemmas.Bool.{false≢true}
 use Rattle.std.proofs.lemmas.Bool.Decides.{Decides-eqb}
-use Rattle.dpl_array.specs.Elements.{behind}
+use Rattle.dpl_array.specs.Elements.{Row, behind}
 use Rattle.dpl_memory.specs.Memory.{Memory, held_at, array_at}
 use Rattle.dpl_strips.specs.Strips.{Written, written_at, IsFree, own_word, OwnWords}
 
@@ -37,3 +37,13 @@ module _ (slot : ℕ) where
     pub written_at-own : (xs : List Written) (x : Written) → OwnWords xs k s u → written_at slot xs ≡ Some x → IsOwn x
     written_at-own [] x own is = absurd cc
     written_at-own (y ∷ xs) x own is = own-first x y (written_at slot xs) (y.slot == slot) (Decides-eqb y.slot slot) (written_at-own xs x own.1) own.0 is
+
+    -- it is what has been found for it, or as it was
+    pub own-words : (x : Written) (at : Row) (ws : List ℤ) → IsOwn x → at ≡ x.at → x.words ≡ Some ws → held_at (behind k at) (array_at slot u) ≡ Some (get_or ws k (pos 0))
+    own-words x at ws own same is =
+        ap (λ at. held_at (behind k at) (array_at slot u)) same ∙ own.1 ∙ ap (λ (o : Option (List ℤ)). own_word (record x { words = o }) k s) is
+
+    pub own-kept : (x : Written) (at : Row) → IsOwn x → at ≡ x.at → x.words ≡ None → held_at (behind k at) (array_at slot u) ≡ held_at (behind k at) (array_at slot s)
+    own-kept x at own same none =
+        ap (λ at. held_at (behind k at) (array_at slot u)) same ∙ own.1 ∙ ap (λ (o : Option (List ℤ)). own_word (record x { words = o }) k s) none
+        ∙ ap (λ t. held_at (behind k x.at) (array_at t s)) own.0 ∙ ap (λ at. held_at (behind k at) (array_at slot s)) (sym same)

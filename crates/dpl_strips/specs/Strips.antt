@@ -53,6 +53,10 @@ pub record Written : Type 0 where
 abbrev pub written : Target → Written
 written x = record { slot = x.slot; at = x.at; words = option_map (λ ws. ws.now) x.words }
 
+-- they write in one slot alone, and nothing has been found before they are done
+abbrev pub one_written : ℕ → Row → List Written
+one_written slot at = record { slot = slot; at = at; words = None } ∷ []
+
 -- they don't write what is in a slot
 abbrev pub IsFree : List Written → ℕ → Type 0
 IsFree [] slot = Unit {0}
