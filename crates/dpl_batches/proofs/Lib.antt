@@ -1,4 +1,7 @@
 -- What serves contracts and proofs alone.
 pub mod FoldedTurns
 pub mod Branching
-pub mod Rooms
+pub mod Stores
+pub mod StoreTurns
+pub mod Kept
+pub mod Found

@@ -13,6 +13,7 @@ ghost use Rattle.dpl_readings.specs.Readings.{steps_in};
 ghost use Rattle.dpl_strips.specs.Strips.{one_written, GoesFrom};
 ghost use Rattle.dpl_elements.specs.Turns.{HasRoom, IsApart, index_turn};
 
+use crate::batch::make_batch;
 use crate::bind::bind;
 use crate::fold::{fold_of, folded};
 use dpl_domain::Index;
@@ -23,6 +24,7 @@ use dpl_nodes::{ArrayName, BoolExpr, IndexExpr, IntDeed, IntExpr, Names, Spot, S
 use dpl_strips::index::{coordinate, plane, space};
 use dpl_strips::{Target, turn_ints, turn_row, turn_truths};
 use dpl_tree::Assign;
+use std::alloc::AllocError;
 
 /// Whether the last coordinate of a row's indices stays in its word through a whole strip.
 pub(crate) fn has_room(row: Row) -> bool
@@ -196,30 +198,34 @@ fn fold_row<'t, A: Arrays>(
     made
 }
 
-/// Makes the turns of a row's indices, at most so many, where the body is one assignment to an element, or folds an int onto another one, and
-/// its right sides are found several at once; how many. They are what they are wherever the loop stands.
+/// Makes the turns of a row's indices, at most so many, where their statements are found several turns at once; how many. They are what they are
+/// wherever the loop stands.
+///
+/// # Errors
+/// Out of memory for a copy of an array that isn't the frame's own; then nothing is said of the frame.
 pub fn make_row<'t, A: Arrays>(
     names: &Names<'t>,
     body: &[Step<'t>],
     row: Row,
     most: usize,
     frame: &mut Frame<A>,
-) -> usize
-    ensures most { result ≤ most }
-    ensures done { (w : Standing) → AreDone (index_turn frame.old.limits names.now (steps_in w body.now)) row result frame.old.memory frame.new.memory }
+) -> Result<usize, AllocError>
+    ensures most { IfOk result (λ made. made ≤ most) }
+    ensures done { IfOk result (λ made. (w : Standing)
+        → AreDone (index_turn frame.old.limits names.now (steps_in w body.now)) row made frame.old.memory frame.new.memory) }
     ensures limits { frame.new.limits ≡ frame.old.limits }
 {
     let [step] = body else {
-        return 0;
+        return make_batch(names, body, row, most, frame);
     };
     match step {
         Step::SetElement(name, index, op, sign, e) => {
-            assign_row(names, name, index, *op, sign, e, row, most, frame)
+            Ok(assign_row(names, name, index, *op, sign, e, row, most, frame))
         }
-        Step::Int(deed, slot, e) => fold_row(names, deed, *slot, e, row, most, frame),
+        Step::Int(deed, slot, e) => Ok(fold_row(names, deed, *slot, e, row, most, frame)),
         Step::Truth(TruthTarget::Element(name, index), e) => {
-            truth_row(names, name, index, e, row, most, frame)
+            Ok(truth_row(names, name, index, e, row, most, frame))
         }
-        _ => 0,
+        _ => make_batch(names, body, row, most, frame),
     }
 }
