@@ -1,3 +1,5 @@
 -- What serves contracts and proofs alone.
 pub mod FoldedTurns
 pub mod Branching
+pub mod Stores
+pub mod StoreTurns
