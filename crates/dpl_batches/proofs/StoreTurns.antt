@@ -1,9 +1,9 @@
 -- Turns whose stores are kept back until all their statements are found. Each turn begins where those before it have put theirs, and finds there what it would
 -- find before them all, but for elements at indices of their own and ints that are folded; so that what is found of the statements holds in each.
-use Rattle.std.proofs.Common.{◌≡◌, ◌≢◌, ◌<◌, ◌≤◌, ◌+◌, ℕ, zero, suc, pos, Bool, true, false, List, [], ◌∷◌, map, get_or, Option, Some, None, is_some, refl, sym, subst, ap, ◌∙◌, arith}
+use Rattle.std.proofs.Common.{◌≡◌, ◌≢◌, ◌≤◌, ◌+◌, ℕ, zero, suc, pos, Bool, true, false, List, [], ◌∷◌, map, get_or, Option, Some, None, is_some, refl, sym, subst, ap, ◌∙◌, arith}
 use Rattle.dpl_array.specs.Elements.{Row, behind}
 use Rattle.dpl_language.specs.Tree.{Stmts}
-use Rattle.dpl_language.specs.Outcome.{Deeds, Done}
+use Rattle.dpl_language.specs.Outcome.{Done}
 use Rattle.dpl_language.specs.Environment.{Limits}
 use Rattle.dpl_language.specs.Statements.{exec_all}
 use Rattle.dpl_memory.specs.Memory.{Variable, Memory, no_array, no_tuple, array_at, held_at, in_memory}

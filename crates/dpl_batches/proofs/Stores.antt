@@ -1,11 +1,10 @@
 -- What turns leave in variables: each such store is put into a slot of its own, so that it's one whether they are put turn by turn, or each in all turns.
 -- They leave all else of a memory as it is, and the variables of the loop may be bound before them or after.
-use Rattle.std.proofs.Common.{◌≡◌, ◌≢◌, ◌<◌, ◌≤◌, ℕ, zero, suc, ℤ, pos, Bool, true, false, List, [], ◌∷◌, map, length, length-set, set, get_or, slice_get, Option, Some, None, is_some, if◌then◌else◌, refl, sym, subst, ap, ◌∙◌, ⊎_elim, arith}
+use Rattle.std.proofs.Common.{◌≡◌, ◌≢◌, ◌<◌, ◌≤◌, ℕ, zero, suc, ℤ, pos, Bool, true, false, List, [], ◌∷◌, map, length, length-set, set, get_or, slice_get, Option, Some, None, is_some, refl, sym, subst, ap, ◌∙◌, ⊎_elim, arith}
 use Rattle.std.proofs.lemmas.Bool.{cases_Bool, cases_lt}
 use Rattle.std.proofs.lemmas.List.{set-get_or, get_or_past, get_or-set_same, get_or-set_other}
 use Rattle.std.proofs.lemmas.Option.{none-some, same_Some, slice_get-get_or}
 use Rattle.dpl_array.specs.Elements.{Row, behind, put_some, put_in_row}
-use Rattle.dpl_language.specs.Tree.{Op}
 use Rattle.dpl_language.specs.Values.{Int, Index}
 use Rattle.dpl_language.specs.Ranges.{same_index}
 use Rattle.dpl_words.specs.Words.{IntLeaf}
@@ -15,7 +14,7 @@ use Rattle.dpl_nodes.specs.declared.step.Names.{Names}
 use Rattle.dpl_strips.specs.Strips.{Written, IsFree}
 use Rattle.dpl_elements.specs.Turns.{bound_at, IsApart}
 use Rattle.dpl_elements.proofs.Alongside.{index-apart, held-elsewhere}
-use Rattle.dpl_elements.proofs.BoundAgain.{bound_at-over, bound_at-number, bound_at-arrays, bound_at-long}
+use Rattle.dpl_elements.proofs.BoundAgain.{bound_at-over, bound_at-twice, bound_at-number, bound_at-arrays, bound_at-long}
 use Rattle.dpl_batches.specs.Folded.{folded_one_where, folded_where}
 use Rattle.dpl_batches.specs.Stores.{unmade, stored_by, stored, all_stored, stored_in_turns, each_stored, HasElement, HaveElements, AreApart}
 use Rattle.dpl_batches.specs.declared.store.Store.{Store}
@@ -52,12 +51,18 @@ with_numbers u ns = record u { words = record u.words { numbers = ns } }
 abbrev with_arrays : Memory → List Held → Memory
 with_arrays u held = record u { arrays = held }
 
--- the word of one store, and the int after one
-abbrev word_of : Store → ℕ → ℤ
+-- the word of one store in a turn, put into an element; or folded onto an int
+abbrev pub word_of : Store → ℕ → ℤ
 word_of x k = get_or x.words k (pos 0)
 
-abbrev folded_by : IntFold → Store → ℕ → ℤ → ℤ
+abbrev pub put_word : ℕ → Row → ℕ → ℤ → Memory → Memory
+put_word slot at k w u = with_array slot (held_with (behind k at) w (array_at slot u)) u
+
+abbrev pub folded_by : IntFold → Store → ℕ → ℤ → ℤ
 folded_by f x k n = folded_one_where f n (get_or x.mask k (pos 0)) (word_of x k)
+
+abbrev pub fold_word : ℕ → IntFold → Store → ℕ → Memory → Memory
+fold_word slot f x k u = with_value_in (PlainKind IntLeaf) slot (Int (folded_by f x k (get_or u.words.numbers slot (pos 0)))) u
 
 -- TWO STORES
 -- of two slots
@@ -89,7 +94,8 @@ held_with-twice : (t : Index) (v w : ℤ) (a : Held) → held_with t w (held_wit
 held_with-twice t v w a = ap {B = Held} (λ ws. record a { words = ws }) (with_word-twice t v w a.keys a.words)
 
 -- ONE STORE AFTER OTHERS, each of another slot
-pub stored-all : (x : Store) (xs : List Store) (j k : ℕ) (u : Memory) → IsFree (map unmade xs) x.slot → stored x j (all_stored xs k u) ≡ all_stored xs k (stored x j u)
+pub stored-all : (x : Store) (xs : List Store) (j k : ℕ) (u : Memory) → IsFree (map unmade xs) x.slot
+    → stored x j (all_stored xs k u) ≡ all_stored xs k (stored x j u)
 stored-all x [] j k u free = refl
 stored-all x (y ∷ xs) j k u free = stored-all x xs j k (stored y k u) free.1 ∙ ap (all_stored xs k) (stored-apart x y j k u free.0)
 
@@ -98,12 +104,14 @@ abbrev pub turns_stored : List Store → ℕ → Memory → Memory
 turns_stored xs zero s = s
 turns_stored xs (suc k) s = all_stored xs k (turns_stored xs k s)
 
-stored-turns : (x : Store) (xs : List Store) (j n : ℕ) (u : Memory) → IsFree (map unmade xs) x.slot → stored x j (turns_stored xs n u) ≡ turns_stored xs n (stored x j u)
+stored-turns : (x : Store) (xs : List Store) (j n : ℕ) (u : Memory) → IsFree (map unmade xs) x.slot
+    → stored x j (turns_stored xs n u) ≡ turns_stored xs n (stored x j u)
 stored-turns x xs j zero u free = refl
 stored-turns x xs j (suc k) u free = stored-all x xs j k (turns_stored xs k u) free ∙ ap (all_stored xs k) (stored-turns x xs j k u free)
 
 -- the first in all turns, and then the others turn by turn
-pub turns-first : (x : Store) (xs : List Store) (n : ℕ) (u : Memory) → IsFree (map unmade xs) x.slot → turns_stored (x ∷ xs) n u ≡ turns_stored xs n (stored_in_turns x n u)
+pub turns-first : (x : Store) (xs : List Store) (n : ℕ) (u : Memory) → IsFree (map unmade xs) x.slot
+    → turns_stored (x ∷ xs) n u ≡ turns_stored xs n (stored_in_turns x n u)
 turns-first x xs zero u free = refl
 turns-first x xs (suc k) u free =
     ap (λ m. all_stored xs k (stored x k m)) (turns-first x xs k u free)
@@ -126,8 +134,8 @@ pub record Leaves (Other : ℕ → Type 0) (u v : Memory) : Type 0 where
   pub long : length v.words.numbers ≡ length u.words.numbers
   pub intents : v.words.intents ≡ u.words.intents
 
-leaves-all : (Other : ℕ → Type 0) (u : Memory) → Leaves Other u u
-leaves-all Other u = record { numbers = λ slot other. refl; tuples = refl; arrays = λ slot other. refl; long = refl; intents = refl }
+leaves-itself : (Other : ℕ → Type 0) (u : Memory) → Leaves Other u u
+leaves-itself Other u = record { numbers = λ slot other. refl; tuples = refl; arrays = λ slot other. refl; long = refl; intents = refl }
 
 leaves-twice : (Other Fewer : ℕ → Type 0) (u v w : Memory) → ((slot : ℕ) → Fewer slot → Other slot) → Leaves Other u v → Leaves Fewer v w → Leaves Fewer u w
 leaves-twice Other Fewer u v w fewer once again = record {
@@ -139,10 +147,10 @@ leaves-twice Other Fewer u v w fewer once again = record {
 }
 
 leaves-fewer : (Other Fewer : ℕ → Type 0) (u v : Memory) → ((slot : ℕ) → Fewer slot → Other slot) → Leaves Other u v → Leaves Fewer u v
-leaves-fewer Other Fewer u v fewer leaves = leaves-twice Other Fewer u v v fewer leaves (leaves-all Fewer v)
+leaves-fewer Other Fewer u v fewer leaves = leaves-twice Other Fewer u v v fewer leaves (leaves-itself Fewer v)
 
 leaves-by : (b : Bool) (f : Option IntFold) (x : Store) (k : ℕ) (u : Memory) → Leaves (λ slot. slot ≢ x.slot) u (stored_by b f x k u)
-leaves-by false f x k u = leaves-all (λ slot. slot ≢ x.slot) u
+leaves-by false f x k u = leaves-itself (λ slot. slot ≢ x.slot) u
 leaves-by true None x k u = record {
   numbers = λ slot other. refl;
   tuples = refl;
@@ -164,24 +172,26 @@ pub leaves-stored : (x : Store) (k : ℕ) (u : Memory) → Leaves (λ slot. slot
 leaves-stored x k u = leaves-by x.is_made x.fold x k u
 
 pub leaves-in_turns : (x : Store) (n : ℕ) (u : Memory) → Leaves (λ slot. slot ≢ x.slot) u (stored_in_turns x n u)
-leaves-in_turns x zero u = leaves-all (λ slot. slot ≢ x.slot) u
+leaves-in_turns x zero u = leaves-itself (λ slot. slot ≢ x.slot) u
 leaves-in_turns x (suc k) u =
     let other : ℕ → Type 0 = λ slot. slot ≢ x.slot in
-    leaves-twice other other u (stored_in_turns x k u) (stored_in_turns x (suc k) u) (λ slot other. other) (leaves-in_turns x k u) (leaves-stored x k (stored_in_turns x k u))
+    let v = stored_in_turns x k u in
+    leaves-twice other other u v (stored x k v) (λ slot is. is) (leaves-in_turns x k u) (leaves-stored x k v)
 
 pub leaves-all_stored : (xs : List Store) (k : ℕ) (u : Memory) → Leaves (IsFree (map unmade xs)) u (all_stored xs k u)
-leaves-all_stored [] k u = leaves-all (IsFree []) u
+leaves-all_stored [] k u = leaves-itself (IsFree []) u
 leaves-all_stored (x ∷ xs) k u =
     let free = IsFree (map unmade (x ∷ xs)) in
-    let once = leaves-fewer (λ slot. slot ≢ x.slot) free u (stored x k u) (λ slot f. f.0) (leaves-stored x k u) in
-    leaves-twice free free u (stored x k u) (all_stored xs k (stored x k u)) (λ slot f. f) once
-    (leaves-fewer (IsFree (map unmade xs)) free (stored x k u) (all_stored xs k (stored x k u)) (λ slot f. f.1) (leaves-all_stored xs k (stored x k u)))
+    let v = stored x k u in
+    let rest = leaves-fewer (IsFree (map unmade xs)) free v (all_stored xs k v) (λ slot f. f.1) (leaves-all_stored xs k v) in
+    leaves-twice (λ slot. slot ≢ x.slot) free u v (all_stored xs k v) (λ slot f. f.0) (leaves-stored x k u) rest
 
 pub leaves-turns : (xs : List Store) (n : ℕ) (u : Memory) → Leaves (IsFree (map unmade xs)) u (turns_stored xs n u)
-leaves-turns xs zero u = leaves-all (IsFree (map unmade xs)) u
+leaves-turns xs zero u = leaves-itself (IsFree (map unmade xs)) u
 leaves-turns xs (suc k) u =
     let free = IsFree (map unmade xs) in
-    leaves-twice free free u (turns_stored xs k u) (turns_stored xs (suc k) u) (λ slot f. f) (leaves-turns xs k u) (leaves-all_stored xs k (turns_stored xs k u))
+    let v = turns_stored xs k u in
+    leaves-twice free free u v (all_stored xs k v) (λ slot f. f) (leaves-turns xs k u) (leaves-all_stored xs k v)
 
 -- and elements at other indices
 elsewhere-by : (b : Bool) (f : Option IntFold) (x : Store) (j : ℕ) (u : Memory) (t : Index) → same_index t (behind j x.at) ≡ false
@@ -222,7 +232,8 @@ own-put x k u there =
 
 -- THE VARIABLES OF THE LOOP
 -- no other int changes as they are bound
-bound_at-other : (names : Names) (slot : ℕ) (t : Index) (u : Memory) → IsApart names slot → get_or (bound_at names t u).words.numbers slot (pos 0) ≡ get_or u.words.numbers slot (pos 0)
+bound_at-other : (names : Names) (slot : ℕ) (t : Index) (u : Memory) → IsApart names slot
+    → get_or (bound_at names t u).words.numbers slot (pos 0) ≡ get_or u.words.numbers slot (pos 0)
 bound_at-other names slot t u apart =
     let ns = u.words.numbers in
     let n = get_or ns slot (pos 0) in
@@ -254,6 +265,14 @@ bound-all_stored names (x ∷ xs) k t u apart =
     bound-all_stored names xs k t (stored x k u) apart.4
     ∙ ap (all_stored xs k) (bound-by names x.is_made x.fold x k t u apart.1)
 
+-- what they held before is gone
+pub bound-stored : (names : Names) (xs : List Store) (k : ℕ) (t v : Index) (u : Memory) → AreApart names xs
+    → bound_at names t (all_stored xs k (bound_at names v u)) ≡ bound_at names t (all_stored xs k u)
+bound-stored names xs k t v u apart =
+    bound-all_stored names xs k t (bound_at names v u) apart
+    ∙ ap (all_stored xs k) (bound_at-twice names t v u)
+    ∙ sym (bound-all_stored names xs k t u apart)
+
 pub bound-turns : (names : Names) (xs : List Store) (n : ℕ) (t : Index) (u : Memory) → AreApart names xs
     → bound_at names t (turns_stored xs n u) ≡ turns_stored xs n (bound_at names t u)
 bound-turns names xs zero t u apart = refl
@@ -269,13 +288,9 @@ made-stored names (z ∷ xs) zero x y k u apart at same over =
     ap (all_stored xs k) (sym (over u) ∙ ap (λ x. stored y k (stored x k u)) (sym is)) ∙ sym (stored-all y xs k k (stored z k u) free)
 made-stored names (z ∷ xs) (suc i) x y k u apart at same over = made-stored names xs i x y k (stored z k u) apart.4 at same over
 
--- a word that goes into the element at its index of a row
-abbrev put_word : ℕ → Row → ℤ → ℕ → Memory → Memory
-put_word slot at w k u = with_array slot (held_with (behind k at) w (array_at slot u)) u
-
-over-by : (b : Bool) (x : Store) (w : ℤ) (k : ℕ) (u : Memory) → put_word x.slot x.at w k (stored_by b None x k u) ≡ put_word x.slot x.at w k u
-over-by false x w k u = refl
-over-by true x w k u =
+over-by : (b : Bool) (x : Store) (k : ℕ) (w : ℤ) (u : Memory) → put_word x.slot x.at k w (stored_by b None x k u) ≡ put_word x.slot x.at k w u
+over-by false x k w u = refl
+over-by true x k w u =
     let t = behind k x.at in
     ap (with_arrays u) (changed-twice u.arrays x.slot no_array (held_with t (word_of x k)) (held_with t w) (held_with t w) (held_with-twice t (word_of x k) w))
 
@@ -284,34 +299,33 @@ module _
     (made : y.is_made ≡ true) where
   -- its words go into an array's elements, which may have got others in the same turns
   pub made-put : y.at ≡ x.at → x.fold ≡ None → y.fold ≡ None → (k : ℕ) (u : Memory)
-      → all_stored (set xs i y) k u ≡ with_array x.slot (held_with (behind k x.at) (get_or y.words k (pos 0)) (array_at x.slot (all_stored xs k u))) (all_stored xs k u)
+      → all_stored (set xs i y) k u ≡ put_word x.slot x.at k (word_of y k) (all_stored xs k u)
   made-put row plain puts k u =
       let w = word_of y k in
-      let is : (m : Memory) → stored y k m ≡ put_word x.slot x.at w k m =
+      let is : (m : Memory) → stored y k m ≡ put_word x.slot x.at k w m =
           λ m.
           ap (λ b. stored_by b y.fold y k m) made
           ∙ ap (λ f. stored_by true f y k m) puts
-          ∙ ap (λ slot. put_word slot y.at w k m) same
-          ∙ ap (λ at. put_word x.slot at w k m) row in
+          ∙ ap (λ slot. put_word slot y.at k w m) same
+          ∙ ap (λ at. put_word x.slot at k w m) row in
       let over : (m : Memory) → stored y k (stored x k m) ≡ stored y k m =
           λ m.
           is (stored x k m)
-          ∙ ap (λ f. put_word x.slot x.at w k (stored_by x.is_made f x k m)) plain
-          ∙ over-by x.is_made x w k m
+          ∙ ap (λ f. put_word x.slot x.at k w (stored_by x.is_made f x k m)) plain
+          ∙ over-by x.is_made x k w m
           ∙ sym (is m) in
       made-stored names xs i x y k u apart at same over ∙ is (all_stored xs k u)
 
   -- or they are folded onto an int, which nothing has been folded onto
   pub made-fold : (f : IntFold) → x.is_made ≡ false → y.fold ≡ Some f → (k : ℕ) (u : Memory)
-      → all_stored (set xs i y) k u
-      ≡ with_value_in (PlainKind IntLeaf) x.slot (Int (folded_one_where f (get_or (all_stored xs k u).words.numbers x.slot (pos 0)) (get_or y.mask k (pos 0)) (get_or y.words k (pos 0)))) (all_stored xs k u)
+      → all_stored (set xs i y) k u ≡ fold_word x.slot f y k (all_stored xs k u)
   made-fold f not_made folds k u =
       let m = all_stored xs k u in
       let over : (m : Memory) → stored y k (stored x k m) ≡ stored y k m = λ m. ap (λ b. stored y k (stored_by b x.fold x k m)) not_made in
       made-stored names xs i x y k u apart at same over
       ∙ ap (λ b. stored_by b y.fold y k m) made
       ∙ ap (λ f. stored_by true f y k m) folds
-      ∙ ap (λ slot. with_value_in (PlainKind IntLeaf) slot (Int (folded_by f y k (get_or m.words.numbers slot (pos 0)))) m) same
+      ∙ ap (λ slot. fold_word slot f y k m) same
 
 -- it is written where the one at its place was
 pub unmade-set : (xs : List Store) (i : ℕ) (x y : Store) → slice_get xs i ≡ Some x → y.slot ≡ x.slot → y.at ≡ x.at → map unmade (set xs i y) ≡ map unmade xs
@@ -323,7 +337,8 @@ unmade-set (z ∷ xs) zero x y at same row =
     ∙ ap {B = List Written} (λ x. unmade x ∷ map unmade xs) (sym is)
 unmade-set (z ∷ xs) (suc i) x y at same row = ap {B = List Written} (λ ws. unmade z ∷ ws) (unmade-set xs i x y at same row)
 
-pub apart-set : (names : Names) (xs : List Store) (i : ℕ) (x y : Store) → slice_get xs i ≡ Some x → y.slot ≡ x.slot → y.at ≡ x.at → AreApart names xs → AreApart names (set xs i y)
+pub apart-set : (names : Names) (xs : List Store) (i : ℕ) (x y : Store) → slice_get xs i ≡ Some x → y.slot ≡ x.slot → y.at ≡ x.at → AreApart names xs
+    → AreApart names (set xs i y)
 apart-set names [] i x y at same row apart = absurd (none-some x at)
 apart-set names (z ∷ xs) zero x y at same row apart =
     let is : z ≡ x = same_Some z x at in
@@ -344,7 +359,8 @@ apart-set names (z ∷ xs) (suc i) x y at same row apart = (
   apart-set names xs i x y at same row apart.4,
 )
 
-pub elements-set : (xs : List Store) (i : ℕ) (x y : Store) (k : ℕ) (s : Memory) → slice_get xs i ≡ Some x → HasElement y.is_made y.fold y k s → HaveElements xs k s → HaveElements (set xs i y) k s
+pub elements-set : (xs : List Store) (i : ℕ) (x y : Store) (k : ℕ) (s : Memory) → slice_get xs i ≡ Some x → HasElement y.is_made y.fold y k s
+    → HaveElements xs k s → HaveElements (set xs i y) k s
 elements-set [] i x y k s at here there = absurd (none-some x at)
 elements-set (z ∷ xs) zero x y k s at here there = (here, there.1)
 elements-set (z ∷ xs) (suc i) x y k s at here there = (there.0, elements-set xs i x y k s at here there.1)

@@ -1,7 +1,7 @@
 -- What the turns of a row leave in variables, kept back until all their statements are found, as a processor keeps back what it stores: of an
 -- array a word for each turn's own element; of an int what each turn folds onto it, where the word of a mask isn't 0.
 -- What is kept back is seen by the statements that follow, and by no other turn.
-use Rattle.std.specs.Prelude.{◌≡◌, ◌≢◌, ◌<◌, ℕ, zero, suc, pos, ℤ, Bool, true, false, not, if◌then◌else◌, List, [], ◌∷◌, map, length, get_or, Option, Some, None, is_some}
+use Rattle.std.specs.Prelude.{◌≡◌, ◌≢◌, ◌<◌, ℕ, zero, suc, pos, ℤ, Bool, true, false, not, List, [], ◌∷◌, map, length, get_or, Option, Some, None, is_some}
 use Rattle.std.specs.Ordering.{int_eq}
 use Rattle.dpl_array.specs.Elements.{Row, behind}
 use Rattle.dpl_language.specs.Tree.{Stmts, NoStmts}
