@@ -1,4 +1,5 @@
 -- What serves contracts and proofs alone.
+pub mod Rooms
 pub mod FoldedTurns
 pub mod Branching
 pub mod Stores
