@@ -28,6 +28,7 @@ rest_of [] = []
 rest_of (x ∷ xs) = xs
 
 pub apart-alike : (names : Names) (xs ys : List Store) → map unmade ys ≡ map unmade xs → AreApart names xs → AreApart names ys
+unfolding first_of rest_of
 apart-alike names [] [] alike apart = tt
 apart-alike names [] (y ∷ ys) alike apart = cc
 apart-alike names (x ∷ xs) [] alike apart = cc
@@ -44,6 +45,7 @@ apart-alike names (x ∷ xs) (y ∷ ys) alike apart =
     )
 
 pub as-many : (xs ys : List Store) → map unmade ys ≡ map unmade xs → length ys ≡ length xs
+unfolding rest_of
 as-many [] [] alike = refl
 as-many [] (y ∷ ys) alike = cc
 as-many (x ∷ xs) [] alike = cc

@@ -9,15 +9,30 @@ ghost use Rattle.dpl_readings.specs.Readings.{step_in, steps_in};
 ghost use Rattle.dpl_elements.specs.Turns.{index_turn};
 ghost use Rattle.dpl_batches.specs.Stores.{AreApart, AreFound};
 
-use crate::bind::bind;
+use crate::variables::bind;
 use crate::keep::{mask_unless, mask_where, plain};
-use crate::store::{MOST, Store, are_apart, put_all, targets};
+use crate::store::{MOST, Store, Variable, are_apart, put_all, targets};
 use crate::turn::{behind, has_room};
 use dpl_frame::{Arrays, Frame};
 use dpl_loop::{Row, STRIP, Strip};
-use dpl_nodes::{Else, Names, Step, TruthTarget};
-use dpl_strips::{Target, is_written, turn_row, turn_truths};
+use dpl_nodes::{Else, IndexExpr, Names, Step, TruthTarget};
+use dpl_strips::{turn_row, turn_truths};
 use std::alloc::AllocError;
+
+// The elements of an array that an assignment writes. The variables that turns write may stand in the index all the same: that is asked for
+// when the statement is found (keep.rt).
+fn element_of<'t, A: Arrays>(
+    slot: usize,
+    index: &IndexExpr<'t>,
+    names: &Names<'t>,
+    row: Row,
+    frame: &Frame<A>,
+) -> Option<Variable> {
+    match turn_row(index, names, &[], row, frame) {
+        Some(at) => Some(Variable { slot, at }),
+        None => None,
+    }
+}
 
 // What a statement that holds no other writes, as far as that is seen from it alone.
 fn written_by<'t, A: Arrays>(
@@ -25,37 +40,46 @@ fn written_by<'t, A: Arrays>(
     names: &Names<'t>,
     row: Row,
     frame: &Frame<A>,
-) -> Option<Target<'t>> {
-    let (slot, at) = match step {
-        Step::Int(_, slot, _) => (*slot, Some(row)),
-        Step::SetElement(name, index, _, _, _) | Step::Truth(TruthTarget::Element(name, index), _) => {
-            (name.slot, turn_row(index, names, &[], row, frame))
+) -> Option<Variable> {
+    match step {
+        Step::Int(_, slot, _) => Some(Variable {
+            slot: *slot,
+            at: row,
+        }),
+        Step::SetElement(name, index, _, _, _) => element_of(name.slot, index, names, row, frame),
+        Step::Truth(TruthTarget::Element(name, index), _) => element_of(
+            name.slot, index, names, row, frame,
+        ),
+        _ => None,
+    }
+}
+
+// Whether a variable is among these.
+fn is_among(found: &[Variable], slot: usize) -> bool {
+    for k in 0..found.len() {
+        if found[k].slot == slot {
+            return true;
         }
-        _ => return None,
-    };
-    Some(Target {
-        slot,
-        at: at?,
-        words: None,
-    })
+    }
+    false
 }
 
 // A variable more that turns write, unless it is among them. None where they are too many.
-fn with_target<'t>(
-    target: Target<'t>,
-    found: &mut [Target<'t>; MOST],
+fn with_variable(
+    variable: Variable,
+    found: &mut [Variable; MOST],
     count: usize,
 ) -> Option<usize>
     requires { count ≤ 4 }
     ensures { IfSome result (λ n. n ≤ 4) }
 {
-    if is_written(&found[..count], target.slot) {
+    if is_among(&found[..count], variable.slot) {
         return Some(count);
     }
     if count == MOST {
         return None;
     }
-    found[count] = target;
+    found[count] = variable;
     Some(count + 1)
 }
 
@@ -66,7 +90,7 @@ fn all_written<'t, A: Arrays>(
     names: &Names<'t>,
     row: Row,
     frame: &Frame<A>,
-    found: &mut [Target<'t>; MOST],
+    found: &mut [Variable; MOST],
     count: usize,
 ) -> Option<usize>
     requires { count ≤ 4 }
@@ -89,7 +113,7 @@ fn also_written<'t, A: Arrays>(
     names: &Names<'t>,
     row: Row,
     frame: &Frame<A>,
-    found: &mut [Target<'t>; MOST],
+    found: &mut [Variable; MOST],
     count: usize,
 ) -> Option<usize>
     requires { count ≤ 4 }
@@ -110,7 +134,7 @@ fn also_written<'t, A: Arrays>(
             }
         }
         _ => match written_by(step, names, row, frame) {
-            Some(target) => with_target(target, found, count),
+            Some(variable) => with_variable(variable, found, count),
             None => None,
         },
     }
@@ -131,7 +155,7 @@ fn statements<'t, A: Arrays>(
     requires apart { AreApart names.now stores.old }
     ensures most { result ≤ size }
     ensures found { (w : Standing) → AreFound frame.now.limits names.now row frame.now.memory (steps_in w body.now)
-        (option_map (λ ms. ms.now) mask) result stores.old stores.new }
+        (option_map (λ ms. ms.now) mask.entry) result stores.old stores.new }
 {
     let mut left = size;
     for k in 0..body.len() {
@@ -155,7 +179,7 @@ fn statement<'t, A: Arrays>(
     requires apart { AreApart names.now stores.old }
     ensures most { result ≤ size }
     ensures found { (w : Standing) → AreFound frame.now.limits names.now row frame.now.memory (Then (step_in w step.now) NoStmts)
-        (option_map (λ ms. ms.now) mask) result stores.old stores.new }
+        (option_map (λ ms. ms.now) mask.entry) result stores.old stores.new }
 {
     match step {
         Step::Nothing => size,
@@ -181,7 +205,7 @@ fn branches<'t, A: Arrays>(
     requires apart { AreApart names.now stores.old }
     ensures most { result ≤ size }
     ensures found { (w : Standing) → AreFound frame.now.limits names.now row frame.now.memory (Then (step_in w step.now) NoStmts)
-        (option_map (λ ms. ms.now) mask) result stores.old stores.new }
+        (option_map (λ ms. ms.now) mask.entry) result stores.old stores.new }
 {
     let Step::If {
         condition,
@@ -249,25 +273,20 @@ pub(crate) fn make_batch<'t, A: Arrays>(
         → AreDone (index_turn frame.old.limits names.now (steps_in w body.now)) row made frame.old.memory frame.new.memory) }
     ensures limits { frame.new.limits ≡ frame.old.limits }
 {
-    let none = Target {
-        slot: 0,
-        at: row,
-        words: None,
-    };
-    let mut found = [none; MOST];
+    let mut found = [Variable { slot: 0, at: row }; MOST];
     let Some(count) = all_written(body, names, row, frame, &mut found, 0) else {
         return Ok(0);
     };
     // The room for stores is cleared where it is made, so there is no more of it than is asked for.
     if count == 1 {
-        let mut stores = [Store::unmade(&found[0])];
+        let mut stores = [Store::unmade(found[0])];
         made(names, body, row, most, &mut stores, frame)
     } else {
         let mut stores = [
-            Store::unmade(&found[0]),
-            Store::unmade(&found[1]),
-            Store::unmade(&found[2]),
-            Store::unmade(&found[3]),
+            Store::unmade(found[0]),
+            Store::unmade(found[1]),
+            Store::unmade(found[2]),
+            Store::unmade(found[3]),
         ];
         made(names, body, row, most, &mut stores[..count], frame)
     }

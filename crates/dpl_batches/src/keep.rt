@@ -20,7 +20,7 @@ use dpl_tree::Assign;
 
 /// The words of a mask by which a statement counts: where a condition holds, and another mask says so, if there is one.
 pub(crate) fn mask_where(mask: Option<&[i64; STRIP]>, holds: &[i64; STRIP]) -> [i64; STRIP]
-    ensures { (k : ℕ) → k < 64 → goes_in (Some result) k ≡ (goes_in (option_map (λ ms. ms.now) mask) k && goes_in (Some holds.now) k) }
+    ensures { (k : ℕ) → k < 64 → goes_in (Some result) k ≡ (goes_in (option_map (λ ms. ms.now) mask.entry) k && goes_in (Some holds.now) k) }
 {
     let Some(mask) = mask else {
         return *holds;
@@ -34,7 +34,7 @@ pub(crate) fn mask_where(mask: Option<&[i64; STRIP]>, holds: &[i64; STRIP]) -> [
 
 /// The same where it doesn't hold.
 pub(crate) fn mask_unless(mask: Option<&[i64; STRIP]>, holds: &[i64; STRIP]) -> [i64; STRIP]
-    ensures { (k : ℕ) → k < 64 → goes_in (Some result) k ≡ (goes_in (option_map (λ ms. ms.now) mask) k && not (goes_in (Some holds.now) k)) }
+    ensures { (k : ℕ) → k < 64 → goes_in (Some result) k ≡ (goes_in (option_map (λ ms. ms.now) mask.entry) k && not (goes_in (Some holds.now) k)) }
 {
     let mut opposite = [0; STRIP];
     for k in 0..STRIP {
@@ -45,7 +45,7 @@ pub(crate) fn mask_unless(mask: Option<&[i64; STRIP]>, holds: &[i64; STRIP]) -> 
 
 // The words of a mask, and those of one that counts in each turn.
 fn mask_words(mask: Option<&[i64; STRIP]>) -> [i64; STRIP]
-    ensures { (k : ℕ) → k < 64 → goes_in (Some result) k ≡ goes_in (option_map (λ ms. ms.now) mask) k }
+    ensures { (k : ℕ) → k < 64 → goes_in (Some result) k ≡ goes_in (option_map (λ ms. ms.now) mask.entry) k }
 {
     match mask {
         Some(mask) => *mask,
@@ -69,7 +69,7 @@ fn blend(mask: Option<&[i64; STRIP]>, own: &[i64], strip: &mut Strip)
     ensures size { strip.new.size ≤ strip.old.size }
     ensures own { strip.new.size ≤ length own.now }
     ensures words { (k : ℕ) → k < strip.new.size → k < 64 → get_or strip.new.words k (pos 0)
-        ≡ (if goes_in (option_map (λ ms. ms.now) mask) k then get_or strip.old.words k (pos 0) else get_or own.now k (pos 0)) }
+        ≡ (if goes_in (option_map (λ ms. ms.now) mask.entry) k then get_or strip.old.words k (pos 0) else get_or own.now k (pos 0)) }
 {
     strip.size = strip.size.min(own.len()).min(STRIP);
     let Some(mask) = mask else {
@@ -118,7 +118,7 @@ fn ints<'t, A: Arrays>(
     requires apart { AreApart names.now stores.old }
     ensures most { result ≤ size }
     ensures found { (w : Standing) → AreFound frame.now.limits names.now row frame.now.memory (Then (step_in w step.now) NoStmts)
-        (option_map (λ ms. ms.now) mask) result stores.old stores.new }
+        (option_map (λ ms. ms.now) mask.entry) result stores.old stores.new }
 {
     let Step::SetElement(name, index, op, _, e) = step else {
         return 0;
@@ -151,7 +151,7 @@ fn truths<'t, A: Arrays>(
     requires apart { AreApart names.now stores.old }
     ensures most { result ≤ size }
     ensures found { (w : Standing) → AreFound frame.now.limits names.now row frame.now.memory (Then (step_in w step.now) NoStmts)
-        (option_map (λ ms. ms.now) mask) result stores.old stores.new }
+        (option_map (λ ms. ms.now) mask.entry) result stores.old stores.new }
 {
     let Step::Truth(TruthTarget::Element(name, index), e) = step else {
         return 0;
@@ -182,7 +182,7 @@ fn folds<'t, A: Arrays>(
     requires apart { AreApart names.now stores.old }
     ensures most { result ≤ size }
     ensures found { (w : Standing) → AreFound frame.now.limits names.now row frame.now.memory (Then (step_in w step.now) NoStmts)
-        (option_map (λ ms. ms.now) mask) result stores.old stores.new }
+        (option_map (λ ms. ms.now) mask.entry) result stores.old stores.new }
 {
     let Step::Int(deed, slot, e) = step else {
         return 0;
@@ -220,7 +220,7 @@ pub(crate) fn plain<'t, A: Arrays>(
     requires apart { AreApart names.now stores.old }
     ensures most { result ≤ size }
     ensures found { (w : Standing) → AreFound frame.now.limits names.now row frame.now.memory (Then (step_in w step.now) NoStmts)
-        (option_map (λ ms. ms.now) mask) result stores.old stores.new }
+        (option_map (λ ms. ms.now) mask.entry) result stores.old stores.new }
 {
     match step {
         Step::SetElement(..) => ints(step, mask, names, row, frame, stores, size),

@@ -4,11 +4,11 @@
 #![tactic(auto)]
 
 mod batch;
-mod bind;
 mod fold;
 mod keep;
 mod store;
 mod turn;
+mod variables;
 
-pub use bind::bind;
 pub use turn::make_row;
+pub use variables::bind;

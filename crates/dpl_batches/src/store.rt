@@ -18,6 +18,13 @@ use std::alloc::AllocError;
 /// The most variables that the turns of a row write.
 pub(crate) const MOST: usize = 4;
 
+/// A variable that turns write: its slot; and of an array in it at which indices, turn by turn.
+#[derive(Clone, Copy)]
+pub(crate) struct Variable {
+    pub slot: usize,
+    pub at: Row,
+}
+
 /// What turns leave in one variable: in the k-th turn the k-th word is put into the element at the k-th index of a row of the array in a slot;
 /// or it is folded onto the int in the slot, where the k-th word of the mask isn't 0. So it is once it is made; until then nothing is left.
 #[derive(Clone, Copy)]
@@ -32,10 +39,10 @@ pub(crate) struct Store {
 
 impl Store {
     /// Nothing as yet of what turns write.
-    pub(crate) fn unmade(target: &Target<'_>) -> Store {
+    pub(crate) fn unmade(variable: Variable) -> Store {
         Store {
-            slot: target.slot,
-            at: target.at,
+            slot: variable.slot,
+            at: variable.at,
             fold: None,
             is_made: false,
             words: [0; STRIP],
@@ -59,16 +66,21 @@ impl Store {
     }
 }
 
+// A target that stands for nothing.
+fn none<'w>(row: Row) -> Target<'w> {
+    Target {
+        slot: 0,
+        at: row,
+        words: None,
+    }
+}
+
 /// Each as statements find it by now; behind them, whatever is there.
 pub(crate) fn targets(stores: &[Store], row: Row) -> [Target<'_>; MOST]
     requires { length stores.now ≤ 4 }
     ensures { map written (take (length stores.now) result) ≡ map by_now stores.now }
 {
-    let mut targets = [Target {
-        slot: 0,
-        at: row,
-        words: None,
-    }; MOST];
+    let mut targets = [none(row), none(row), none(row), none(row)];
     for k in 0..stores.len() {
         targets[k] = stores[k].target();
     }
@@ -91,8 +103,8 @@ pub(crate) fn place_of(stores: &[Store], slot: usize) -> Option<usize>
 fn is_kept(stores: &[Store], slot: usize) -> bool
     ensures { result ≡ false → IsFree (map unmade stores.now) slot }
 {
-    for store in stores {
-        if store.slot == slot {
+    for k in 0..stores.len() {
+        if stores[k].slot == slot {
             return true;
         }
     }

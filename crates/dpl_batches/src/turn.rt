@@ -1,7 +1,7 @@
 // Turns of a loop that are made at once, along a row of indices: those whose body is one assignment to an element, or folds an int onto
 // one that is no variable of the loop. The right sides are evaluated for several turns, and then put along a row, or folded one after another.
 
-ghost use Rattle.std.specs.Prelude.{◌≡◌, ◌≤◌, true, false, IfSome};
+ghost use Rattle.std.specs.Prelude.{◌≡◌, ◌≤◌, true, false, IfSome, IfOk};
 ghost use Rattle.dpl_array.specs.Elements.{behind};
 ghost use Rattle.dpl_language.specs.Tree.{IntKind, BoolKind, Set, One, NoStmts, Then};
 ghost use Rattle.dpl_standing.specs.Standing.{Standing};
@@ -14,7 +14,7 @@ ghost use Rattle.dpl_strips.specs.Strips.{one_written, GoesFrom};
 ghost use Rattle.dpl_elements.specs.Turns.{HasRoom, IsApart, index_turn};
 
 use crate::batch::make_batch;
-use crate::bind::bind;
+use crate::variables::bind;
 use crate::fold::{fold_of, folded};
 use dpl_domain::Index;
 use dpl_elements::put_row;
