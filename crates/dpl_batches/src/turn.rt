@@ -1,7 +1,7 @@
 // Turns of a loop that are made at once, along a row of indices: those whose body is one assignment to an element, or folds an int onto
 // one that is no variable of the loop. The right sides are evaluated for several turns, and then put along a row, or folded one after another.
 
-ghost use Rattle.std.specs.Prelude.{◌≡◌, ◌≤◌, true, false};
+ghost use Rattle.std.specs.Prelude.{◌≡◌, ◌≤◌, true, false, IfOk};
 ghost use Rattle.dpl_array.specs.Elements.{behind};
 ghost use Rattle.dpl_language.specs.Tree.{IntKind, BoolKind, Set, One, NoStmts, Then};
 ghost use Rattle.dpl_standing.specs.Standing.{Standing};
@@ -22,6 +22,7 @@ use dpl_nodes::{ArrayName, BoolExpr, IndexExpr, IntDeed, IntExpr, Names, Spot, S
 use dpl_strips::index::{coordinate, plane, space};
 use dpl_strips::{Target, turn_ints, turn_row, turn_truths};
 use dpl_tree::Assign;
+use std::alloc::AllocError;
 
 /// Whether the last coordinate of a row's indices stays in its word through a whole strip.
 pub(crate) fn has_room(row: Row) -> bool
@@ -173,28 +174,32 @@ fn fold_row<'t, A: Arrays>(
 
 /// Makes the turns of a row's indices, at most so many, where the body is one assignment to an element, or folds an int onto another one, and
 /// its right sides are found several at once; how many. They are what they are wherever the loop stands.
+///
+/// # Errors
+/// Out of memory.
 pub fn make_row<'t, A: Arrays>(
     names: &Names<'t>,
     body: &[Step<'t>],
     row: Row,
     most: usize,
     frame: &mut Frame<A>,
-) -> usize
-    ensures most { result ≤ most }
-    ensures done { (w : Standing) → AreDone (index_turn frame.old.limits names.now (steps_in w body.now)) row result frame.old.memory frame.new.memory }
+) -> Result<usize, AllocError>
+    ensures most { IfOk result (λ made. made ≤ most) }
+    ensures done { (w : Standing) → IfOk result (λ made.
+        AreDone (index_turn frame.old.limits names.now (steps_in w body.now)) row made frame.old.memory frame.new.memory) }
     ensures limits { frame.new.limits ≡ frame.old.limits }
 {
     let [step] = body else {
-        return 0;
+        return Ok(0);
     };
     match step {
-        Step::SetElement(name, index, op, sign, e) => {
-            assign_row(names, name, index, *op, sign, e, row, most, frame)
-        }
-        Step::Int(deed, slot, e) => fold_row(names, deed, *slot, e, row, most, frame),
+        Step::SetElement(name, index, op, sign, e) => Ok(assign_row(
+            names, name, index, *op, sign, e, row, most, frame,
+        )),
+        Step::Int(deed, slot, e) => Ok(fold_row(names, deed, *slot, e, row, most, frame)),
         Step::Truth(TruthTarget::Element(name, index), e) => {
-            truth_row(names, name, index, e, row, most, frame)
+            Ok(truth_row(names, name, index, e, row, most, frame))
         }
-        _ => 0,
+        _ => Ok(0),
     }
 }
