@@ -13,6 +13,10 @@ use Rattle.dpl_loop.specs.Runs.{AreDone, RunsTo}
 use Rattle.dpl_loop.proofs.Ends.{then_do-halts, halts-alike}
 
 -- what follows of a value, where there is one
+pub ok-then : {A E : Type 0} {P Q : A → Type 0} (r : Result A E) → IfOk r P → ((x : A) → P x → Q x) → IfOk r Q
+ok-then (Ok x) p go = go x p
+ok-then (Err e) p go = tt
+
 module _ {A E : Type 0} {P Q R : A → Type 0} where
   pub ok-both : (r : Result A E) → IfOk r P → IfOk r Q → ((x : A) → P x → Q x → R x) → IfOk r R
   ok-both (Ok x) p q go = go x p q

@@ -3,14 +3,14 @@
 use Rattle.std.proofs.Common.{arith}
 use Rattle.std.proofs.lemmas.Option.{slice_get_within}
 use Rattle.dpl_array.specs.Elements.{behind}
-use Rattle.dpl_loop.proofs.Order.{ok-both, order-row, run-within}
+use Rattle.dpl_loop.proofs.Order.{ok-then, ok-both, order-row, run-within}
 use Rattle.dpl_loop.proofs.together.row.Goals as goal
 
 pub returns-clause-within : goal.returns-clause-within
 returns-clause-within g c =
     let ts = g.P.Places.indices c.args.over.now in
-    ok-both c.make_row.result c.make_row.ensures.most c.make_row.ensures.done
-    (λ made most are. run-within ts c.args.place made
+    ok-then c.make_row.result c.make_row.ensures.most
+    (λ made most. run-within ts c.args.place made
     (λ k below. (behind k c.row-row.result.0, c.row-row.ensures.there k (omega (arith, below, most))))
     (slice_get_within ts c.args.place c.args.index c.requires))
 

@@ -4,7 +4,7 @@ use Rattle.std.proofs.Common.{arith, sym}
 use Rattle.std.proofs.lemmas.Option.{slice_get_within}
 use Rattle.dpl_sets.specs.Indices.{indices}
 use Rattle.dpl_array.specs.Elements.{behind}
-use Rattle.dpl_loop.proofs.Order.{ok-both, run-within}
+use Rattle.dpl_loop.proofs.Order.{ok-then, ok-both, run-within}
 use Rattle.dpl_readings.specs.Readings.{steps_in}
 use Rattle.dpl_elements.specs.Turns.{index_turn}
 use Rattle.dpl_steps.proofs.Looping.{in_order-row}
@@ -13,8 +13,8 @@ use Rattle.dpl_steps.proofs.rows.domain_row.Goals as goal
 pub returns-clause-within : goal.returns-clause-within
 returns-clause-within g c =
     let ts = indices c.args.domain.now in
-    ok-both c.make_row.result c.make_row.ensures.most c.make_row.ensures.most
-    (λ made most _. run-within ts c.args.place made
+    ok-then c.make_row.result c.make_row.ensures.most
+    (λ made most. run-within ts c.args.place made
     (λ k below. (behind k c.of-row.result.0, c.of-row.ensures.there k (omega (arith, below, most))))
     c.requires)
 
