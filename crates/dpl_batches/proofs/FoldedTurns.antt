@@ -1,9 +1,9 @@
 -- Turns whose ints are folded onto a word: the body of each does that to one int, which is no variable of the loop. In each turn the variables hold its index, and the word is as the turns before have left it.
-use Rattle.std.proofs.Common.{◌≡◌, ◌<◌, ◌≤◌, ◌+◌, ℕ, zero, suc, ℤ, pos, Bool, true, false, List, length, get_or, None, Ok, refl, sym, subst, ap, ◌∙◌, arith}
+use Rattle.std.proofs.Common.{◌≡◌, ◌<◌, ◌≤◌, ◌+◌, ℕ, zero, suc, ℤ, pos, List, length, get_or, None, Ok, refl, sym, subst, ap, ◌∙◌, arith}
 use Rattle.std.proofs.lemmas.List.{set-get_or, set-set, get_or-set_same, get_or-set_other}
 use Rattle.dpl_array.specs.Elements.{Row, behind}
-use Rattle.dpl_language.specs.Tree.{One, StmtTree, NoElse, NoStmts, Then}
-use Rattle.dpl_language.specs.Values.{Int, Truth, kept_number}
+use Rattle.dpl_language.specs.Tree.{One, StmtTree, NoStmts, Then}
+use Rattle.dpl_language.specs.Values.{Int}
 use Rattle.dpl_language.specs.Outcome.{Deeds, Done, with_ok, then_do}
 use Rattle.dpl_language.specs.Environment.{Limits}
 use Rattle.dpl_language.specs.Expressions.{value_of}
@@ -11,17 +11,15 @@ use Rattle.dpl_language.specs.Statements.{exec, exec_all}
 use Rattle.dpl_words.specs.Words.{IntLeaf, intent_at}
 use Rattle.dpl_memory.specs.Memory.{PlainKind, Variable, Memory, no_array, array_at, held_at, with_value_in, in_memory}
 use Rattle.dpl_nodes.specs.declared.tree.IntExpr.{IntExpr}
-use Rattle.dpl_nodes.specs.declared.tree.BoolExpr.{BoolExpr}
 use Rattle.dpl_nodes.specs.declared.fold.IntFold.{IntFold}
 use Rattle.dpl_nodes.specs.declared.step.IntDeed.{IntDeed}
 use Rattle.dpl_nodes.specs.declared.step.Names.{Names}
-use Rattle.dpl_nodes.specs.Typed.{int_view, truth_view}
+use Rattle.dpl_nodes.specs.Typed.{int_view}
 use Rattle.dpl_nodes.specs.Steps.{int_changed}
 use Rattle.dpl_nodes.proofs.Unread.{cell_read-int}
 use Rattle.dpl_loop.specs.declared.strip.Strip.{Strip}
 use Rattle.dpl_loop.specs.Runs.{AreDone}
-use Rattle.dpl_strips.specs.Strips.{IsInTurn, IsInOwnTurn, HoldsInTurns}
-use Rattle.dpl_strips.specs.Truths.{TruthsHoldInTurns}
+use Rattle.dpl_strips.specs.Strips.{one_written, IsInTurn, IsInOwnTurn, HoldsInTurns}
 use Rattle.dpl_elements.specs.Changes.{int_changed_by, int_put, ends_as}
 use Rattle.dpl_elements.specs.Turns.{bound_at, IsApart, index_turn}
 use Rattle.dpl_elements.proofs.BoundAgain.{bound_at-arrays, bound_at-twice, bound_at-number, bound_at-long, bound_at-intents}
@@ -33,20 +31,20 @@ module _ (names : Names) (slot : ℕ) (first : Row) (s : Memory) where
   abbrev turn_with : ℕ → ℤ → Memory
   turn_with k n = with_value_in (PlainKind IntLeaf) slot (Int n) (bound_at names (behind k first) s)
 
-  is-turn : (k : ℕ) (n : ℤ) → IsInTurn names slot (behind k first) s (turn_with k n)
+  is-turn : (k : ℕ) (n : ℤ) → IsInTurn names (one_written slot first) (behind k first) s (turn_with k n)
   is-turn k n = record {
-    numbers = λ j other. get_or-set_other (bound_at names (behind k first) s).words.numbers slot j n (pos 0) other;
+    numbers = λ j free. get_or-set_other (bound_at names (behind k first) s).words.numbers slot j n (pos 0) free.0;
     tuples = λ j. refl;
-    arrays = λ j other. ap (λ held. get_or held j no_array) (bound_at-arrays names (behind k first) s);
+    arrays = λ j free. ap (λ held. get_or held j no_array) (bound_at-arrays names (behind k first) s);
   }
 
   -- no array has changed
   own : (k : ℕ) (n : ℤ) → held_at (behind k first) (array_at slot (turn_with k n)) ≡ held_at (behind k first) (array_at slot s)
   own k n = ap (λ held. held_at (behind k first) (get_or held slot no_array)) (bound_at-arrays names (behind k first) s)
 
-  is-own : (row : Row) → row ≡ first → (k : ℕ) (n : ℤ) → IsInOwnTurn names (record { slot = slot; at = first }) row k s (turn_with k n)
+  is-own : (row : Row) → row ≡ first → (k : ℕ) (n : ℤ) → IsInOwnTurn names (one_written slot first) row k s (turn_with k n)
   is-own row begins k n =
-      subst (λ row. IsInOwnTurn names (record { slot = slot; at = first }) row k s (turn_with k n)) (sym begins) (record { turn = is-turn k n; own = own k n })
+      subst (λ row. IsInOwnTurn names (one_written slot first) row k s (turn_with k n)) (sym begins) (record { turn = is-turn k n; own = (own k n, tt) })
 
   -- one int is folded
   one-folded : (limits : Limits) (deed : IntDeed) (e : IntExpr) (fold : IntFold) → slot < length s.words.numbers → Folds deed (intent_at slot s.words.intents) fold
@@ -98,7 +96,7 @@ module _
     (limits : Limits) (names : Names) (deed : IntDeed) (slot : ℕ) (e : IntExpr) (fold : IntFold) (first : Row) (strip : Strip) (size : ℕ) (s : Memory)
     (apart : IsApart names slot) (there : slot < length s.words.numbers) (folds : Folds deed (intent_at slot s.words.intents) fold)
     (begins : strip.row ≡ first) (few : size ≤ strip.size) (cap : size ≤ 64)
-    (values : HoldsInTurns names (record { slot = slot; at = first }) (λ u. value_of limits in_memory (int_view e) None u) s strip) where
+    (values : HoldsInTurns names (one_written slot first) (λ u. value_of limits in_memory (int_view e) None u) s strip) where
   abbrev changes : StmtTree Variable
   changes = int_changed deed slot (One (int_view e))
 

@@ -1,3 +1,4 @@
 -- What serves contracts and proofs alone.
 pub mod FoldedTurns
 pub mod Branching
+pub mod Rooms

@@ -1,7 +1,7 @@
 // Turns of a loop that are made at once, along a row of indices: those whose body is one assignment to an element, or folds an int onto
 // one that is no variable of the loop. The right sides are evaluated for several turns, and then put along a row, or folded one after another.
 
-ghost use Rattle.std.specs.Prelude.{◌≡◌, ◌≤◌, true, false, IfOk};
+ghost use Rattle.std.specs.Prelude.{◌≡◌, ◌≤◌, true, false, IfOk, IfSome};
 ghost use Rattle.dpl_array.specs.Elements.{behind};
 ghost use Rattle.dpl_language.specs.Tree.{IntKind, BoolKind, Set, One, NoStmts, Then};
 ghost use Rattle.dpl_standing.specs.Standing.{Standing};
@@ -10,6 +10,7 @@ ghost use Rattle.dpl_nodes.specs.Typed.{int_view, truth_view};
 ghost use Rattle.dpl_nodes.specs.Steps.{array_leaf, element_set, int_changed};
 ghost use Rattle.dpl_loop.specs.Runs.{AreDone};
 ghost use Rattle.dpl_readings.specs.Readings.{steps_in};
+ghost use Rattle.dpl_strips.specs.Strips.{one_written, GoesFrom};
 ghost use Rattle.dpl_elements.specs.Turns.{HasRoom, IsApart, index_turn};
 
 use crate::bind::bind;
@@ -57,6 +58,24 @@ pub(crate) fn behind(row: Row, k: usize) -> Index
     }
 }
 
+// The row of the elements of an array that the turns write, by their index. It is told without them, so any row stands for it here.
+fn element_row<A: Arrays>(
+    index: &IndexExpr<'_>,
+    names: &Names<'_>,
+    slot: usize,
+    row: Row,
+    frame: &Frame<A>,
+) -> Option<Row>
+    ensures { IfSome result (λ at. GoesFrom frame.now.limits names.now (one_written slot row) row frame.now.memory index.now at) }
+{
+    let targets = [Target {
+        slot,
+        at: row,
+        words: None,
+    }];
+    turn_row(index, names, &targets, row, frame)
+}
+
 // An assignment to an element, in the turns of a row's indices.
 fn assign_row<'t, A: Arrays>(
     names: &Names<'t>,
@@ -77,15 +96,16 @@ fn assign_row<'t, A: Arrays>(
     if !has_room(row) {
         return 0;
     }
-    let Some(at) = turn_row(index, names, name.slot, row, frame) else {
+    let Some(at) = element_row(index, names, name.slot, row, frame) else {
         return 0;
     };
-    let target = Target {
+    let targets = [Target {
         slot: name.slot,
         at,
-    };
+        words: None,
+    }];
     let mut strip = Strip::none(row);
-    turn_ints(e, names, &target, frame, &mut strip);
+    turn_ints(e, names, &targets, frame, &mut strip);
     let made = put_row(name, op, sign, at, &mut strip, most, frame);
     if made > 0 {
         bind(names, behind(row, made - 1), frame);
@@ -111,15 +131,16 @@ fn truth_row<'t, A: Arrays>(
     if !has_room(row) {
         return 0;
     }
-    let Some(at) = turn_row(index, names, name.slot, row, frame) else {
+    let Some(at) = element_row(index, names, name.slot, row, frame) else {
         return 0;
     };
-    let target = Target {
+    let targets = [Target {
         slot: name.slot,
         at,
-    };
+        words: None,
+    }];
     let mut strip = Strip::none(row);
-    turn_truths(e, names, &target, frame, &mut strip);
+    turn_truths(e, names, &targets, frame, &mut strip);
     let made = put_row(name, Assign::Set, name.at, at, &mut strip, most, frame);
     if made > 0 {
         bind(names, behind(row, made - 1), frame);
@@ -160,9 +181,13 @@ fn fold_row<'t, A: Arrays>(
     let Some(fold) = fold_of(deed, frame.operator(slot)) else {
         return 0;
     };
-    let target = Target { slot, at: row };
+    let targets = [Target {
+        slot,
+        at: row,
+        words: None,
+    }];
     let mut strip = Strip::none(row);
-    turn_ints(e, names, &target, frame, &mut strip);
+    turn_ints(e, names, &targets, frame, &mut strip);
     let made = strip.size.min(most).min(STRIP);
     if made > 0 {
         let word = folded(fold, frame.number(slot), &strip.words, made);

@@ -23,7 +23,7 @@ use Rattle.dpl_nodes.specs.Steps.{array_leaf, element_set}
 use Rattle.dpl_nodes.proofs.Unread.{cell_read-int, cell_read-truth}
 use Rattle.dpl_loop.specs.declared.strip.Strip.{Strip}
 use Rattle.dpl_loop.specs.Runs.{AreDone}
-use Rattle.dpl_strips.specs.Strips.{IsSameAt, IsInTurn, IsInOwnTurn, HoldsInTurns, GoesFrom}
+use Rattle.dpl_strips.specs.Strips.{IsSameAt, one_written, IsInTurn, IsInOwnTurn, HoldsInTurns, GoesFrom}
 use Rattle.dpl_strips.specs.Truths.{TruthsHoldInTurns}
 use Rattle.dpl_elements.specs.Changes.{signed, ends_as, put_memory}
 use Rattle.dpl_elements.specs.Rows.{ArePut}
@@ -90,20 +90,20 @@ module _ (limits : Limits) (names : Names) (stmt : StmtTree Variable) (first : R
 module _
     (limits : Limits) (names : Names) (x : ArrayName) (index : IndexExpr) (op : Assign) (sign : Place) (first at : Row) (strip : Strip) (size : ℕ) (s : Memory) (arrays : List Held)
     (put : ArePut limits x (signed op sign) at strip size s.arrays arrays) (begins : strip.row ≡ first) (few : size ≤ strip.size) (cap : size ≤ 64)
-    (goes : GoesFrom limits names x.slot first s index at) where
+    (goes : GoesFrom limits names (one_written x.slot first) first s index at) where
   abbrev memory_in : ℕ → Memory
   memory_in k = record (bound_at names (behind k first) s) { arrays = put.between k }
 
-  is-turn : (k : ℕ) → IsInTurn names x.slot (behind k first) s (memory_in k)
-  is-turn k = record { numbers = λ slot other. refl; tuples = λ slot. refl; arrays = λ slot other. put.others k slot other }
+  is-turn : (row : Row) (k : ℕ) → IsInTurn names (one_written x.slot row) (behind k first) s (memory_in k)
+  is-turn row k = record { numbers = λ slot free. refl; tuples = λ slot. refl; arrays = λ slot free. put.others k slot free.0 }
 
-  is-own : (k : ℕ) → k < size → IsInOwnTurn names (record { slot = x.slot; at = at }) strip.row k s (memory_in k)
+  is-own : (k : ℕ) → k < size → IsInOwnTurn names (one_written x.slot at) strip.row k s (memory_in k)
   is-own k below =
-      subst (λ row. IsInOwnTurn names (record { slot = x.slot; at = at }) row k s (memory_in k)) (sym begins)
-      (record { turn = is-turn k; own = put.next k x.slot below })
+      subst (λ row. IsInOwnTurn names (one_written x.slot at) row k s (memory_in k)) (sym begins)
+      (record { turn = is-turn at k; own = (put.next k x.slot below, tt) })
 
   -- of ints
-  module _ (e : IntExpr) (values : HoldsInTurns names (record { slot = x.slot; at = at }) (λ u. value_of limits in_memory (int_view e) None u) s strip) where
+  module _ (e : IntExpr) (values : HoldsInTurns names (one_written x.slot at) (λ u. value_of limits in_memory (int_view e) None u) s strip) where
     abbrev sets : StmtTree Variable
     sets = element_set (array_leaf IntKind x) index op sign (int_view e)
 
@@ -112,7 +112,7 @@ module _
         let m = memory_in k in
         let w = Int (get_or strip.words k (pos 0)) in
         exec-element limits (array_leaf IntKind x) index op sign (int_view e) m done w (Ok (behind k at)) (cell_read-int e)
-        (values k (omega (arith, below, few)) (omega (arith, below, cap)) m (is-own k below)) (goes k (omega (arith, below, cap)) m (is-turn k))
+        (values k (omega (arith, below, few)) (omega (arith, below, cap)) m (is-own k below)) (goes k (omega (arith, below, cap)) m (is-turn first k))
         ∙ put.each k below m refl done
 
     pub row-done : size ≡ 0 → AreDone (index_turn limits names (Then sets NoStmts)) first size s (record s { arrays = arrays })
@@ -134,7 +134,7 @@ module _
         let word = get_or strip.words k (pos 0) in
         let truth = values k (omega (arith, below, few)) (omega (arith, below, cap)) in
         exec-element limits (array_leaf BoolKind x) index Set nowhere (truth_view e) m done (Truth truth.0) (Ok (behind k at)) (cell_read-truth e)
-        (truth.2 m (is-own k below)) (goes k (omega (arith, below, cap)) m (is-turn k))
+        (truth.2 m (is-own k below)) (goes k (omega (arith, below, cap)) m (is-turn first k))
         ∙ change-put limits BoolKind x Set nowhere (behind k at) (Truth truth.0) m done refl (λ old new. refl)
         ∙ ap (λ w. ends_as (put_memory x.at.now x.slot (behind k at) w m) done) (sym truth.1)
         ∙ sym (change-put limits IntKind x op sign (behind k at) (Int word) m done divides replaces)

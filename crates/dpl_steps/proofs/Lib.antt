@@ -4,5 +4,4 @@ pub mod Tested
 pub mod Gathered
 pub mod ArrayItems
 pub mod Refusing
-pub mod Rooms
 pub mod Contexts

@@ -2,3 +2,4 @@ pub mod Wrapped
 pub mod Strips
 pub mod Paces
 pub mod Truths
+pub mod Targets

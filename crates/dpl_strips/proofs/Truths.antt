@@ -1,6 +1,6 @@
 -- What is made of the words of truth values, or of ints, is the word of the whole's truth value.
 -- Each lemma has the word that is made on its right side.
-use Rattle.std.proofs.Common.{◌≡◌, ◌<◌, ◌≤◌, ℕ, ℤ, pos, Bool, true, false, length, get_or, take, Option, Result, Ok, refl, sym, subst, ap, ◌∙◌, arith}
+use Rattle.std.proofs.Common.{◌≡◌, ◌<◌, ◌≤◌, ℕ, ℤ, pos, Bool, true, false, List, length, get_or, take, Option, Result, Ok, refl, sym, subst, ap, ◌∙◌, arith}
 use Rattle.std.proofs.lemmas.List.{get_or-take}
 use Rattle.dpl_language.specs.Tree.{ExprTree}
 use Rattle.dpl_language.specs.Values.{Value, Fault, Index, Int, Truth, kept_number}
@@ -13,10 +13,9 @@ use Rattle.dpl_nodes.specs.declared.tree.Comparison.TheVariants as comparison
 use Rattle.dpl_nodes.specs.declared.step.Names.{Names}
 use Rattle.dpl_nodes.specs.Typed.{comparison_view}
 use Rattle.dpl_loop.specs.declared.strip.Strip.{Strip}
-use Rattle.dpl_strips.specs.declared.target.Target.{Target}
 use Rattle.dpl_strips.specs.declared.truth_strips.Junction.{Junction}
 use Rattle.dpl_strips.specs.declared.truth_strips.Junction.TheVariants as junction
-use Rattle.dpl_strips.specs.Strips.{IsInOwnTurn, HoldsInTurns}
+use Rattle.dpl_strips.specs.Strips.{Written, IsInOwnTurn, HoldsInTurns}
 use Rattle.dpl_strips.specs.Truths.{TruthsHoldInTurns, junction_view, joins, compares}
 use Rattle.dpl_strips.proofs.Strips.{take-few}
 
@@ -43,7 +42,7 @@ module _ (limits : Limits) (t : Option Index) (u : Memory) where
 
 -- the words of a strip that are made of those of two, of which the right one's first so many are taken
 module _
-    (names : Names) (target : Target) (s : Memory) (left right made : Strip) (size : ℕ) (row : made.row ≡ left.row) (beside : right.row ≡ left.row)
+    (names : Names) (xs : List Written) (s : Memory) (left right made : Strip) (size : ℕ) (row : made.row ≡ left.row) (beside : right.row ≡ left.row)
     (fewer : made.size ≤ left.size) (in_right : made.size ≤ length (take size right.words)) (small : size ≤ right.size) where
   inside : (k : ℕ) → k < made.size → k < size
   inside k below = omega (arith, below, in_right, take-few size right.words)
@@ -52,18 +51,18 @@ module _
   taken k below = get_or-take size right.words k (pos 0) (inside k below)
 
   -- the turn of a strip's index is that of another's over the same row
-  turn-left : (k : ℕ) (u : Memory) → IsInOwnTurn names target made.row k s u → IsInOwnTurn names target left.row k s u
-  turn-left k u turn = subst (λ row. IsInOwnTurn names target row k s u) row turn
+  turn-left : (k : ℕ) (u : Memory) → IsInOwnTurn names xs made.row k s u → IsInOwnTurn names xs left.row k s u
+  turn-left k u turn = subst (λ row. IsInOwnTurn names xs row k s u) row turn
 
-  turn-right : (k : ℕ) (u : Memory) → IsInOwnTurn names target made.row k s u → IsInOwnTurn names target right.row k s u
-  turn-right k u turn = subst (λ row. IsInOwnTurn names target row k s u) (sym beside) (turn-left k u turn)
+  turn-right : (k : ℕ) (u : Memory) → IsInOwnTurn names xs made.row k s u → IsInOwnTurn names xs right.row k s u
+  turn-right k u turn = subst (λ row. IsInOwnTurn names xs row k s u) (sym beside) (turn-left k u turn)
 
   pub joined-hold : (at_left at_right at_whole : Memory → Result Value Fault) (op : Junction)
       → ((u : Memory) (x y : Bool) → at_left u ≡ Ok (Truth x) → at_right u ≡ Ok (Truth y) → at_whole u ≡ Ok (Truth (joins op x y)))
-      → TruthsHoldInTurns names target at_left s left → TruthsHoldInTurns names target at_right s right
+      → TruthsHoldInTurns names xs at_left s left → TruthsHoldInTurns names xs at_right s right
       → ((k : ℕ) → k < made.size → k < 64 → (x y : Bool) → get_or left.words k (pos 0) ≡ kept_number (Truth x) → get_or (take size right.words) k (pos 0) ≡ kept_number (Truth y)
       → get_or made.words k (pos 0) ≡ kept_number (Truth (joins op x y)))
-      → TruthsHoldInTurns names target at_whole s made
+      → TruthsHoldInTurns names xs at_whole s made
   joined-hold at_left at_right at_whole op whole left_holds right_holds words k below cap =
       let l = left_holds k (omega (arith, below, fewer)) cap in
       let r = right_holds k (omega (arith, inside k below, small)) cap in (
@@ -74,9 +73,9 @@ module _
 
   pub compared-hold : (at_left at_right at_whole : Memory → Result Value Fault) (c : Comparison)
       → ((u : Memory) (x y : ℤ) → at_left u ≡ Ok (Int x) → at_right u ≡ Ok (Int y) → at_whole u ≡ Ok (Truth (compares c x y)))
-      → HoldsInTurns names target at_left s left → HoldsInTurns names target at_right s right
+      → HoldsInTurns names xs at_left s left → HoldsInTurns names xs at_right s right
       → ((k : ℕ) → k < made.size → k < 64 → get_or made.words k (pos 0) ≡ kept_number (Truth (compares c (get_or left.words k (pos 0)) (get_or (take size right.words) k (pos 0)))))
-      → TruthsHoldInTurns names target at_whole s made
+      → TruthsHoldInTurns names xs at_whole s made
   compared-hold at_left at_right at_whole c whole left_holds right_holds words k below cap =
       let x = get_or left.words k (pos 0) in
       let y = get_or right.words k (pos 0) in (

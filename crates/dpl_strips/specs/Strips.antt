@@ -1,6 +1,6 @@
 -- Ints of several indices at once, and how far turns may change a memory before they are used.
 -- A strip is evaluated before those turns, and each of its ints is the value in the turn of its index all the same.
-use Rattle.std.specs.Prelude.{◌≡◌, ◌≢◌, ◌<◌, ℕ, ℤ, pos, ◌+ℤ◌, ◌-ℤ◌, ◌*ℤ◌, List, [], ◌∷◌, map, length, get_or, set, Some, None, Result, Ok, FitsSigned, Option, option_map, IfSome}
+use Rattle.std.specs.Prelude.{◌≡◌, ◌≢◌, ◌<◌, ℕ, ◌==◌, if◌then◌else◌, ℤ, pos, ◌+ℤ◌, ◌-ℤ◌, ◌*ℤ◌, List, [], ◌∷◌, map, length, get_or, set, Some, None, Result, Ok, FitsSigned, Option, option_map, IfSome}
 use Rattle.std.specs.Int.{w64}
 use Rattle.dpl_array.specs.Elements.{Row, behind}
 use Rattle.dpl_language.specs.Tree.{Infix, Add, Subtract, Multiply}
@@ -53,10 +53,19 @@ pub record Written : Type 0 where
 abbrev pub written : Target → Written
 written x = record { slot = x.slot; at = x.at; words = option_map (λ ws. ws.now) x.words }
 
+-- they write in one slot alone, and nothing has been found before they are done
+abbrev pub one_written : ℕ → Row → List Written
+one_written slot at = record { slot = slot; at = at; words = None } ∷ []
+
 -- they don't write what is in a slot
 abbrev pub IsFree : List Written → ℕ → Type 0
 IsFree [] slot = Unit {0}
 IsFree (x ∷ xs) slot = (slot ≢ x.slot) × IsFree xs slot
+
+-- what they write in a slot, if they do
+abbrev pub written_at : ℕ → List Written → Option Written
+written_at slot [] = None
+written_at slot (x ∷ xs) = if x.slot == slot then Some x else written_at slot xs
 
 -- a memory in the turn of an index: the variables of the loop hold the index, and else the words and the arrays alone may have changed that
 -- the turns write

@@ -2,7 +2,8 @@
 // A strip says of each int that it has that it is the value at its index, and never how many it has: whoever asks for one goes on index by
 // index where it has none, so that a fault and its turn are the walk's alone. It is read before the turns that write, so it must not see what
 // they write. A promoted expression reads at the index that is written alone; an expression in a turn may read elsewhere, so it has no strip
-// where it reads the word that turns write, or another element of their array than its own turn's (specs/Strips.antt: `IsSameAt`, `IsInOwnTurn`).
+// where it reads a word that turns write, or another element of an array of theirs than its own turn's (specs/Strips.antt: `IsSameAt`,
+// `IsInOwnTurn`). What statements of the same turns have made of such an element is read in place of what the array has (`Target`).
 #![tactic(auto)]
 
 mod apply;
@@ -17,6 +18,6 @@ mod turn_strips;
 
 pub use apply::repeat;
 pub use strip::{promoted_ints, promoted_strip};
-pub use target::Target;
+pub use target::{Target, is_written};
 pub use truth_strips::turn_truths;
-pub use turn_strips::{turn_ints, turn_row};
+pub use turn_strips::{is_same, turn_ints, turn_row};

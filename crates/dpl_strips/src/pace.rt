@@ -1,13 +1,14 @@
 // How an int goes from turn to turn of a loop: it stays, or it steps along with the last coordinate of the turns' indices.
 // So elements are found, and put, several turns at once.
 
-ghost use Rattle.std.specs.Prelude.{◌≡◌, ◌∷◌, length, IfSome};
+ghost use Rattle.std.specs.Prelude.{◌≡◌, ◌∷◌, map, length, IfSome};
 ghost use Rattle.dpl_array.specs.Elements.{behind};
-ghost use Rattle.dpl_strips.specs.Strips.{FitsTurns, GoesAs, GoesIn, GoesAfter, each_put, turn_numbers, GoesAt};
+ghost use Rattle.dpl_strips.specs.Strips.{FitsTurns, GoesAs, GoesIn, GoesAfter, each_put, turn_numbers, written, GoesAt};
 ghost use Rattle.dpl_strips.specs.declared.apply.Wrapping.TheVariants.{Sum as SumOf, Difference as DifferenceOf};
 ghost use Rattle.dpl_strips.specs.declared.pace.Pace.TheVariants.{Steady as SteadyPace, Stepping as SteppingPace};
 
 use crate::number::{difference, sum};
+use crate::target::{Target, is_written};
 use dpl_frame::{Arrays, Frame};
 use dpl_loop::{Row, STRIP};
 use dpl_nodes::{IntExpr, Names};
@@ -125,26 +126,26 @@ fn local<A: Arrays>(slot: usize, names: &Names<'_>, row: Row, frame: &Frame<A>) 
 }
 
 /// How an int goes through the turns of a row's indices, as far as that is told by its text and by what the frame holds. An int in which an
-/// element, a quotient or more than sums and differences stand has no pace, nor has one in which the slot stands that the turns may write.
+/// element, a quotient or more than sums and differences stand has no pace, nor has one in which a slot stands that the turns may write.
 pub(crate) fn pace_of<A: Arrays>(
     e: &IntExpr<'_>,
     names: &Names<'_>,
-    target: usize,
+    targets: &[Target<'_>],
     row: Row,
     frame: &Frame<A>,
 ) -> Option<Pace>
-    ensures { IfSome result (λ p. FitsTurns row.step p × GoesAt frame.now.limits names.now target row frame.now.memory e.now p) }
+    ensures { IfSome result (λ p. FitsTurns row.step p × GoesAt frame.now.limits names.now (map written targets.now) row frame.now.memory e.now p) }
 {
     match e {
         IntExpr::Number(n) => Some(Pace::Steady(*n)),
-        IntExpr::Local(slot) if *slot != target => local(*slot, names, row, frame),
+        IntExpr::Local(slot) if !is_written(targets, *slot) => local(*slot, names, row, frame),
         IntExpr::Sum(a, b) => {
-            let left = pace_of(a, names, target, row, frame)?;
-            left.plus(pace_of(b, names, target, row, frame)?, row)
+            let left = pace_of(a, names, targets, row, frame)?;
+            left.plus(pace_of(b, names, targets, row, frame)?, row)
         }
         IntExpr::Difference(a, b) => {
-            let left = pace_of(a, names, target, row, frame)?;
-            left.minus(pace_of(b, names, target, row, frame)?, row)
+            let left = pace_of(a, names, targets, row, frame)?;
+            left.minus(pace_of(b, names, targets, row, frame)?, row)
         }
         _ => None,
     }
@@ -154,13 +155,13 @@ pub(crate) fn pace_of<A: Arrays>(
 pub(crate) fn steady<A: Arrays>(
     e: &IntExpr<'_>,
     names: &Names<'_>,
-    target: usize,
+    targets: &[Target<'_>],
     row: Row,
     frame: &Frame<A>,
 ) -> Option<i64>
-    ensures { IfSome result (λ n. GoesAt frame.now.limits names.now target row frame.now.memory e.now (SteadyPace n)) }
+    ensures { IfSome result (λ n. GoesAt frame.now.limits names.now (map written targets.now) row frame.now.memory e.now (SteadyPace n)) }
 {
-    match pace_of(e, names, target, row, frame)? {
+    match pace_of(e, names, targets, row, frame)? {
         Pace::Steady(n) => Some(n),
         Pace::Stepping(_) => None,
     }
@@ -170,13 +171,13 @@ pub(crate) fn steady<A: Arrays>(
 pub(crate) fn first_step<A: Arrays>(
     e: &IntExpr<'_>,
     names: &Names<'_>,
-    target: usize,
+    targets: &[Target<'_>],
     row: Row,
     frame: &Frame<A>,
 ) -> Option<i64>
-    ensures { IfSome result (λ n. GoesAt frame.now.limits names.now target row frame.now.memory e.now (SteppingPace n)) }
+    ensures { IfSome result (λ n. GoesAt frame.now.limits names.now (map written targets.now) row frame.now.memory e.now (SteppingPace n)) }
 {
-    match pace_of(e, names, target, row, frame)? {
+    match pace_of(e, names, targets, row, frame)? {
         Pace::Steady(_) => None,
         Pace::Stepping(from) => Some(from),
     }

@@ -1,7 +1,7 @@
 // What the turns of a row's indices write, which strips must not read but where each turn has it for itself.
 
-ghost use Rattle.std.specs.Prelude.{◌≡◌, false, map};
-ghost use Rattle.dpl_strips.specs.Strips.{written, IsFree};
+ghost use Rattle.std.specs.Prelude.{◌≡◌, false, map, option_map};
+ghost use Rattle.dpl_strips.specs.Strips.{written, IsFree, written_at};
 
 use dpl_array::Row;
 
@@ -14,14 +14,23 @@ pub struct Target<'w> {
     pub words: Option<&'w [i64]>,
 }
 
-/// Whether turns write what is in a slot.
-pub(crate) fn is_written(targets: &[Target<'_>], slot: usize) -> bool
-    ensures { result ≡ false → IsFree (map written targets.now) slot }
+/// What turns write in a slot, if they do.
+#[inline(always)]
+pub(crate) fn target_at<'a, 'w>(targets: &'a [Target<'w>], slot: usize) -> Option<&'a Target<'w>>
+    ensures { option_map (λ x. written x.now) result ≡ written_at slot (map written targets.now) }
 {
     for target in targets {
         if target.slot == slot {
-            return true;
+            return Some(target);
         }
     }
-    false
+    None
+}
+
+/// Whether turns write what is in a slot.
+#[inline(always)]
+pub fn is_written(targets: &[Target<'_>], slot: usize) -> bool
+    ensures { result ≡ false → IsFree (map written targets.now) slot }
+{
+    target_at(targets, slot).is_some()
 }

@@ -1,7 +1,7 @@
 // The truth values of an expression in several turns of a loop at once, in the words of a strip: 1 is true and 0 is false.
 // What is read is read before the turns, as for ints (turn_strips.rt). No part has a fault there, so both sides of `&&` and `||` are found.
 
-ghost use Rattle.std.specs.Prelude.{◌≡◌, ◌≤◌, ◌<◌, Bool, not, ℕ, pos, None, get_or, length};
+ghost use Rattle.std.specs.Prelude.{◌≡◌, ◌≤◌, ◌<◌, Bool, not, ℕ, pos, None, map, get_or, length};
 ghost use Rattle.dpl_syntax.specs.declared.place.Place.{Place};
 ghost use Rattle.dpl_language.specs.Tree.{BoolKind, Not, Prefixed};
 ghost use Rattle.dpl_language.specs.Values.{Truth, kept_number};
@@ -10,6 +10,7 @@ ghost use Rattle.dpl_words.specs.Words.{is_true};
 ghost use Rattle.dpl_lowered.specs.Shapes.{nowhere, two};
 ghost use Rattle.dpl_memory.specs.Memory.{truth_leaf, in_memory};
 ghost use Rattle.dpl_nodes.specs.Typed.{array_named, in_square, index_items, int_view, truth_view, leaf_named, comparison_view};
+ghost use Rattle.dpl_strips.specs.Strips.{written};
 ghost use Rattle.dpl_strips.specs.Truths.{TruthsHoldInTurns, junction_view, joins, compares};
 
 use crate::apply::{copy, each, repeat, with_words};
@@ -89,15 +90,15 @@ fn oppose(strip: &mut Strip)
 fn local<A: Arrays>(
     slot: usize,
     names: &Names<'_>,
-    target: &Target,
+    targets: &[Target<'_>],
     frame: &Frame<A>,
     strip: &mut Strip,
 )
     ensures row { strip.new.row ≡ strip.old.row }
-    ensures values { TruthsHoldInTurns names.now target.now
+    ensures values { TruthsHoldInTurns names.now (map written targets.now)
         (λ u. value_of frame.now.limits in_memory (leaf_named (truth_leaf slot)) None u) frame.now.memory strip.new }
 {
-    match steady(&IntExpr::Local(slot), names, target.slot, strip.row, frame) {
+    match steady(&IntExpr::Local(slot), names, targets, strip.row, frame) {
         Some(word) => repeat(strip, truth(word)),
         None => strip.size = 0,
     }
@@ -108,15 +109,15 @@ fn element<A: Arrays>(
     slot: usize,
     index: &IndexExpr<'_>,
     names: &Names<'_>,
-    target: &Target,
+    targets: &[Target<'_>],
     frame: &Frame<A>,
     strip: &mut Strip,
 )
     ensures row { strip.new.row ≡ strip.old.row }
-    ensures values { (at : Place) → TruthsHoldInTurns names.now target.now (λ u. value_of frame.now.limits in_memory
+    ensures values { (at : Place) → TruthsHoldInTurns names.now (map written targets.now) (λ u. value_of frame.now.limits in_memory
         (in_square (array_named BoolKind slot at) (index_items index.now)) None u) frame.now.memory strip.new }
 {
-    match elements(slot, index, names, target, strip.row, frame) {
+    match elements(slot, index, names, targets, strip.row, frame) {
         Some(words) => {
             copy(strip, words);
             settle(strip);
@@ -131,15 +132,15 @@ fn element<A: Arrays>(
 fn opposites<A: Arrays>(
     e: &BoolExpr<'_>,
     names: &Names<'_>,
-    target: &Target,
+    targets: &[Target<'_>],
     frame: &Frame<A>,
     strip: &mut Strip,
 )
     ensures row { strip.new.row ≡ strip.old.row }
-    ensures values { TruthsHoldInTurns names.now target.now (λ u. value_of frame.now.limits in_memory
+    ensures values { TruthsHoldInTurns names.now (map written targets.now) (λ u. value_of frame.now.limits in_memory
         (Prefixed nowhere Not (truth_view e.now)) None u) frame.now.memory strip.new }
 {
-    turn_truths(e, names, target, frame, strip);
+    turn_truths(e, names, targets, frame, strip);
     oppose(strip);
 }
 
@@ -151,17 +152,17 @@ fn joined<A: Arrays>(
     a: &BoolExpr<'_>,
     b: &BoolExpr<'_>,
     names: &Names<'_>,
-    target: &Target,
+    targets: &[Target<'_>],
     frame: &Frame<A>,
     strip: &mut Strip,
 )
     ensures row { strip.new.row ≡ strip.old.row }
-    ensures values { TruthsHoldInTurns names.now target.now (λ u. value_of frame.now.limits in_memory
+    ensures values { TruthsHoldInTurns names.now (map written targets.now) (λ u. value_of frame.now.limits in_memory
         (two (truth_view a.now) nowhere (junction_view op) (truth_view b.now)) None u) frame.now.memory strip.new }
 {
     let mut right = Strip::none(strip.row);
-    turn_truths(a, names, target, frame, strip);
-    turn_truths(b, names, target, frame, &mut right);
+    turn_truths(a, names, targets, frame, strip);
+    turn_truths(b, names, targets, frame, &mut right);
     let size = right.size.min(STRIP);
     join(op, strip, &right.words[..size]);
 }
@@ -173,17 +174,17 @@ fn compared<A: Arrays>(
     a: &IntExpr<'_>,
     b: &IntExpr<'_>,
     names: &Names<'_>,
-    target: &Target,
+    targets: &[Target<'_>],
     frame: &Frame<A>,
     strip: &mut Strip,
 )
     ensures row { strip.new.row ≡ strip.old.row }
-    ensures values { TruthsHoldInTurns names.now target.now (λ u. value_of frame.now.limits in_memory
+    ensures values { TruthsHoldInTurns names.now (map written targets.now) (λ u. value_of frame.now.limits in_memory
         (two (int_view a.now) nowhere (comparison_view c) (int_view b.now)) None u) frame.now.memory strip.new }
 {
     let mut right = Strip::none(strip.row);
-    turn_ints(a, names, target, frame, strip);
-    turn_ints(b, names, target, frame, &mut right);
+    turn_ints(a, names, targets, frame, strip);
+    turn_ints(b, names, targets, frame, &mut right);
     let size = right.size.min(STRIP);
     compare(c, strip, &right.words[..size]);
 }
@@ -194,23 +195,24 @@ fn compared<A: Arrays>(
 pub fn turn_truths<A: Arrays>(
     e: &BoolExpr<'_>,
     names: &Names<'_>,
-    target: &Target,
+    targets: &[Target<'_>],
     frame: &Frame<A>,
     strip: &mut Strip,
 )
     ensures row { strip.new.row ≡ strip.old.row }
-    ensures values { TruthsHoldInTurns names.now target.now (λ u. value_of frame.now.limits in_memory (truth_view e.now) None u) frame.now.memory strip.new }
+    ensures values { TruthsHoldInTurns names.now (map written targets.now)
+        (λ u. value_of frame.now.limits in_memory (truth_view e.now) None u) frame.now.memory strip.new }
 {
     match e {
         BoolExpr::Truth(value) => repeat(strip, i64::from(*value)),
-        BoolExpr::Local(slot) => local(*slot, names, target, frame, strip),
-        BoolExpr::Element(slot, index, _) => element(*slot, index, names, target, frame, strip),
-        BoolExpr::Not(e) => opposites(e, names, target, frame, strip),
-        BoolExpr::And(a, b) => joined(Junction::And, a, b, names, target, frame, strip),
-        BoolExpr::Or(a, b) => joined(Junction::Or, a, b, names, target, frame, strip),
-        BoolExpr::Same(a, b) => joined(Junction::Same, a, b, names, target, frame, strip),
-        BoolExpr::Differ(a, b) => joined(Junction::Differ, a, b, names, target, frame, strip),
-        BoolExpr::Compare(c, a, b) => compared(*c, a, b, names, target, frame, strip),
+        BoolExpr::Local(slot) => local(*slot, names, targets, frame, strip),
+        BoolExpr::Element(slot, index, _) => element(*slot, index, names, targets, frame, strip),
+        BoolExpr::Not(e) => opposites(e, names, targets, frame, strip),
+        BoolExpr::And(a, b) => joined(Junction::And, a, b, names, targets, frame, strip),
+        BoolExpr::Or(a, b) => joined(Junction::Or, a, b, names, targets, frame, strip),
+        BoolExpr::Same(a, b) => joined(Junction::Same, a, b, names, targets, frame, strip),
+        BoolExpr::Differ(a, b) => joined(Junction::Differ, a, b, names, targets, frame, strip),
+        BoolExpr::Compare(c, a, b) => compared(*c, a, b, names, targets, frame, strip),
         _ => strip.size = 0,
     }
 }

@@ -1,7 +1,7 @@
 // The ints of an expression in several turns of a loop at once, and where the elements lie that these turns find.
-// What is read is read before the turns, and so of what they write only the element that a turn writes itself. Strips are made as in strip.rt.
+// What is read is read before the turns, and so of what they write only the elements that a turn writes itself. Strips are made as in strip.rt.
 
-ghost use Rattle.std.specs.Prelude.{◌≡◌, ◌<◌, ℕ, pos, ◌+ℤ◌, ◌*ℤ◌, IsTrue, None, get_or, length, IfSome};
+ghost use Rattle.std.specs.Prelude.{◌≡◌, ◌<◌, ℕ, pos, ◌+ℤ◌, ◌*ℤ◌, IsTrue, None, map, get_or, length, IfSome};
 ghost use Rattle.dpl_syntax.specs.declared.place.Place.{Place};
 ghost use Rattle.dpl_language.specs.Arithmetic.{wrap};
 ghost use Rattle.dpl_language.specs.Tree.{Kind, IntKind, Minus, Divide, Remainder, Prefixed};
@@ -10,14 +10,14 @@ ghost use Rattle.dpl_lowered.specs.Shapes.{nowhere, two};
 ghost use Rattle.dpl_memory.specs.Memory.{in_memory};
 ghost use Rattle.dpl_nodes.specs.declared.tree.IndexExpr.{Tuple as TupleIndex};
 ghost use Rattle.dpl_nodes.specs.Typed.{array_named, in_square, index_items, int_view};
-ghost use Rattle.dpl_strips.specs.Strips.{paced, FitsTurns, IsInOwnTurn, HoldsInTurns, RightHolds, GoesFrom, infix_of};
+ghost use Rattle.dpl_strips.specs.Strips.{paced, FitsTurns, written, IsInOwnTurn, HoldsInTurns, RightHolds, GoesFrom, infix_of};
 ghost use Rattle.dpl_strips.specs.Truths.{ElementsInTurns};
 
 use crate::apply::{Right, Wrapping, apply, copy, divide, leave, negate, repeat};
 use crate::index::{coordinate, plane, space};
 use crate::number::sum;
 use crate::pace::{Pace, first_step, pace_of, steady};
-use crate::target::Target;
+use crate::target::{Target, target_at};
 use dpl_domain::Index;
 use dpl_frame::{Arrays, Frame};
 use dpl_loop::{Row, STRIP, Strip};
@@ -53,11 +53,12 @@ fn pace(strip: &mut Strip, pace: Pace)
 fn tuple_index<A: Arrays>(
     slot: usize,
     names: &Names<'_>,
-    target: usize,
+    targets: &[Target<'_>],
     row: Row,
     frame: &Frame<A>,
 ) -> Option<Index>
-    ensures { IfSome result (λ t. GoesFrom frame.now.limits names.now target row frame.now.memory (TupleIndex slot) (record row { first = t })) }
+    ensures { IfSome result (λ t. GoesFrom frame.now.limits names.now (map written targets.now) row frame.now.memory
+        (TupleIndex slot) (record row { first = t })) }
 {
     match names {
         Names::Tuple(variable) if *variable == slot && frame.has_tuple(slot) => Some(row.first()),
@@ -69,26 +70,26 @@ fn tuple_index<A: Arrays>(
 fn first_index<A: Arrays>(
     index: &IndexExpr<'_>,
     names: &Names<'_>,
-    target: usize,
+    targets: &[Target<'_>],
     row: Row,
     frame: &Frame<A>,
 ) -> Option<Index>
-    ensures { IfSome result (λ t. GoesFrom frame.now.limits names.now target row frame.now.memory index.now (record row { first = t })) }
+    ensures { IfSome result (λ t. GoesFrom frame.now.limits names.now (map written targets.now) row frame.now.memory index.now (record row { first = t })) }
 {
     match index {
-        IndexExpr::Line(i) => Some(coordinate(first_step(i, names, target, row, frame)?)),
+        IndexExpr::Line(i) => Some(coordinate(first_step(i, names, targets, row, frame)?)),
         IndexExpr::Plane(i, j) => {
-            let i = steady(i, names, target, row, frame)?;
-            let j = first_step(j, names, target, row, frame)?;
+            let i = steady(i, names, targets, row, frame)?;
+            let j = first_step(j, names, targets, row, frame)?;
             Some(plane(i, j))
         }
         IndexExpr::Space(i, j, k) => {
-            let i = steady(i, names, target, row, frame)?;
-            let j = steady(j, names, target, row, frame)?;
-            let k = first_step(k, names, target, row, frame)?;
+            let i = steady(i, names, targets, row, frame)?;
+            let j = steady(j, names, targets, row, frame)?;
+            let k = first_step(k, names, targets, row, frame)?;
             Some(space(i, j, k))
         }
-        IndexExpr::Tuple(slot) => tuple_index(*slot, names, target, row, frame),
+        IndexExpr::Tuple(slot) => tuple_index(*slot, names, targets, row, frame),
     }
 }
 
@@ -96,18 +97,18 @@ fn first_index<A: Arrays>(
 pub fn turn_row<A: Arrays>(
     index: &IndexExpr<'_>,
     names: &Names<'_>,
-    target: usize,
+    targets: &[Target<'_>],
     row: Row,
     frame: &Frame<A>,
 ) -> Option<Row>
-    ensures { IfSome result (λ at. GoesFrom frame.now.limits names.now target row frame.now.memory index.now at) }
+    ensures { IfSome result (λ at. GoesFrom frame.now.limits names.now (map written targets.now) row frame.now.memory index.now at) }
 {
-    let first = first_index(index, names, target, row, frame)?;
+    let first = first_index(index, names, targets, row, frame)?;
     Some(row.begun_at(first))
 }
 
-// Whether two rows are the same.
-fn is_same(a: Row, b: Row) -> bool
+/// Whether two rows are the same.
+pub fn is_same(a: Row, b: Row) -> bool
     ensures { IsTrue result → a ≡ b }
 {
     let (one, other) = (a.first(), b.first());
@@ -131,45 +132,51 @@ fn is_same(a: Row, b: Row) -> bool
     true
 }
 
-/// The elements of an array that the turns find, where they lie side by side and no other turn writes them. They are told as words, whatever
-/// the array's kind.
+/// The elements of an array that the turns find, where they lie side by side and no other turn writes them; those that a turn writes itself
+/// are what statements of it have made of them. They are told as words, whatever the array's kind.
 pub(crate) fn elements<'f, A: Arrays>(
     slot: usize,
     index: &IndexExpr<'_>,
     names: &Names<'_>,
-    target: &Target,
+    targets: &[Target<'f>],
     row: Row,
     frame: &'f Frame<A>,
 ) -> Option<&'f [i64]>
-    ensures { (kind : Kind) (at : Place) → IfSome result (λ words. ElementsInTurns names.now target.now
+    ensures { (kind : Kind) (at : Place) → IfSome result (λ words. ElementsInTurns names.now (map written targets.now)
         (value_of frame.now.limits in_memory (in_square (array_named kind slot at) (index_items index.now)) None) kind row frame.now.memory words.now) }
 {
-    let at = turn_row(index, names, target.slot, row, frame)?;
-    if slot == target.slot && !is_same(at, target.at) {
+    let at = turn_row(index, names, targets, row, frame)?;
+    let Some(target) = target_at(targets, slot) else {
+        return Some(frame.run(slot, at));
+    };
+    if !is_same(at, target.at) {
         return None;
     }
-    Some(frame.run(slot, at))
+    match target.words {
+        Some(words) => Some(words),
+        None => Some(frame.run(slot, at)),
+    }
 }
 
 // A right side that needs no strip.
 fn right_of<'f, A: Arrays>(
     e: &IntExpr<'_>,
     names: &Names<'_>,
-    target: &Target,
+    targets: &[Target<'f>],
     row: Row,
     frame: &'f Frame<A>,
 ) -> Option<Right<'f>>
-    ensures { IfSome result (RightHolds (λ row k u. IsInOwnTurn names.now target.now row k frame.now.memory u)
+    ensures { IfSome result (RightHolds (λ row k u. IsInOwnTurn names.now (map written targets.now) row k frame.now.memory u)
         (λ t u. value_of frame.now.limits in_memory (int_view e.now) None u) row) }
 {
     match e {
         IntExpr::Element(slot, index, _) => {
-            match elements(*slot, index, names, target, row, frame) {
+            match elements(*slot, index, names, targets, row, frame) {
                 Some(words) => Some(Right::Words(words)),
                 None => None,
             }
         }
-        _ => match steady(e, names, target.slot, row, frame) {
+        _ => match steady(e, names, targets, row, frame) {
             Some(n) => Some(Right::Int(n)),
             None => None,
         },
@@ -180,14 +187,15 @@ fn right_of<'f, A: Arrays>(
 fn leaf<A: Arrays>(
     e: &IntExpr<'_>,
     names: &Names<'_>,
-    target: &Target,
+    targets: &[Target<'_>],
     frame: &Frame<A>,
     strip: &mut Strip,
 )
     ensures row { strip.new.row ≡ strip.old.row }
-    ensures values { HoldsInTurns names.now target.now (λ u. value_of frame.now.limits in_memory (int_view e.now) None u) frame.now.memory strip.new }
+    ensures values { HoldsInTurns names.now (map written targets.now)
+        (λ u. value_of frame.now.limits in_memory (int_view e.now) None u) frame.now.memory strip.new }
 {
-    match pace_of(e, names, target.slot, strip.row, frame) {
+    match pace_of(e, names, targets, strip.row, frame) {
         Some(told) => pace(strip, told),
         None => strip.size = 0,
     }
@@ -198,15 +206,15 @@ fn element<A: Arrays>(
     slot: usize,
     index: &IndexExpr<'_>,
     names: &Names<'_>,
-    target: &Target,
+    targets: &[Target<'_>],
     frame: &Frame<A>,
     strip: &mut Strip,
 )
     ensures row { strip.new.row ≡ strip.old.row }
-    ensures values { (at : Place) → HoldsInTurns names.now target.now (λ u. value_of frame.now.limits in_memory
+    ensures values { (at : Place) → HoldsInTurns names.now (map written targets.now) (λ u. value_of frame.now.limits in_memory
         (in_square (array_named IntKind slot at) (index_items index.now)) None u) frame.now.memory strip.new }
 {
-    match elements(slot, index, names, target, strip.row, frame) {
+    match elements(slot, index, names, targets, strip.row, frame) {
         Some(words) => copy(strip, words),
         None => strip.size = 0,
     }
@@ -218,15 +226,15 @@ fn element<A: Arrays>(
 fn negatives<A: Arrays>(
     e: &IntExpr<'_>,
     names: &Names<'_>,
-    target: &Target,
+    targets: &[Target<'_>],
     frame: &Frame<A>,
     strip: &mut Strip,
 )
     ensures row { strip.new.row ≡ strip.old.row }
-    ensures values { HoldsInTurns names.now target.now (λ u. value_of frame.now.limits in_memory
+    ensures values { HoldsInTurns names.now (map written targets.now) (λ u. value_of frame.now.limits in_memory
         (Prefixed nowhere Minus (int_view e.now)) None u) frame.now.memory strip.new }
 {
-    turn_ints(e, names, target, frame, strip);
+    turn_ints(e, names, targets, frame, strip);
     negate(strip);
 }
 
@@ -238,17 +246,17 @@ fn of_two<A: Arrays>(
     a: &IntExpr<'_>,
     b: &IntExpr<'_>,
     names: &Names<'_>,
-    target: &Target,
+    targets: &[Target<'_>],
     frame: &Frame<A>,
     strip: &mut Strip,
 )
     ensures row { strip.new.row ≡ strip.old.row }
-    ensures values { HoldsInTurns names.now target.now (λ u. value_of frame.now.limits in_memory
+    ensures values { HoldsInTurns names.now (map written targets.now) (λ u. value_of frame.now.limits in_memory
         (two (int_view a.now) nowhere (infix_of op) (int_view b.now)) None u) frame.now.memory strip.new }
 {
     let mut right = Strip::none(strip.row);
-    turn_ints(a, names, target, frame, strip);
-    turn_ints(b, names, target, frame, &mut right);
+    turn_ints(a, names, targets, frame, strip);
+    turn_ints(b, names, targets, frame, &mut right);
     let size = right.size.min(STRIP);
     apply(op, strip, Right::Words(&right.words[..size]));
 }
@@ -261,19 +269,19 @@ fn both<A: Arrays>(
     a: &IntExpr<'_>,
     b: &IntExpr<'_>,
     names: &Names<'_>,
-    target: &Target,
+    targets: &[Target<'_>],
     frame: &Frame<A>,
     strip: &mut Strip,
 )
     ensures row { strip.new.row ≡ strip.old.row }
-    ensures values { HoldsInTurns names.now target.now (λ u. value_of frame.now.limits in_memory
+    ensures values { HoldsInTurns names.now (map written targets.now) (λ u. value_of frame.now.limits in_memory
         (two (int_view a.now) nowhere (infix_of op) (int_view b.now)) None u) frame.now.memory strip.new }
 {
-    let Some(right) = right_of(b, names, target, strip.row, frame) else {
-        of_two(op, a, b, names, target, frame, strip);
+    let Some(right) = right_of(b, names, targets, strip.row, frame) else {
+        of_two(op, a, b, names, targets, frame, strip);
         return;
     };
-    turn_ints(a, names, target, frame, strip);
+    turn_ints(a, names, targets, frame, strip);
     apply(op, strip, right);
 }
 
@@ -284,17 +292,17 @@ fn quotients<A: Arrays>(
     a: &IntExpr<'_>,
     b: &IntExpr<'_>,
     names: &Names<'_>,
-    target: &Target,
+    targets: &[Target<'_>],
     frame: &Frame<A>,
     strip: &mut Strip,
 )
     ensures row { strip.new.row ≡ strip.old.row }
-    ensures values { (at : Place) → HoldsInTurns names.now target.now (λ u. value_of frame.now.limits in_memory
+    ensures values { (at : Place) → HoldsInTurns names.now (map written targets.now) (λ u. value_of frame.now.limits in_memory
         (two (int_view a.now) at Divide (int_view b.now)) None u) frame.now.memory strip.new }
 {
-    match steady(b, names, target.slot, strip.row, frame) {
+    match steady(b, names, targets, strip.row, frame) {
         Some(n) if n != 0 => {
-            turn_ints(a, names, target, frame, strip);
+            turn_ints(a, names, targets, frame, strip);
             divide(strip, n);
         }
         _ => strip.size = 0,
@@ -308,17 +316,17 @@ fn remainders<A: Arrays>(
     a: &IntExpr<'_>,
     b: &IntExpr<'_>,
     names: &Names<'_>,
-    target: &Target,
+    targets: &[Target<'_>],
     frame: &Frame<A>,
     strip: &mut Strip,
 )
     ensures row { strip.new.row ≡ strip.old.row }
-    ensures values { (at : Place) → HoldsInTurns names.now target.now (λ u. value_of frame.now.limits in_memory
+    ensures values { (at : Place) → HoldsInTurns names.now (map written targets.now) (λ u. value_of frame.now.limits in_memory
         (two (int_view a.now) at Remainder (int_view b.now)) None u) frame.now.memory strip.new }
 {
-    match steady(b, names, target.slot, strip.row, frame) {
+    match steady(b, names, targets, strip.row, frame) {
         Some(n) if n != 0 => {
-            turn_ints(a, names, target, frame, strip);
+            turn_ints(a, names, targets, frame, strip);
             leave(strip, n);
         }
         _ => strip.size = 0,
@@ -326,27 +334,29 @@ fn remainders<A: Arrays>(
 }
 
 /// Makes a strip the ints of an expression in the turns of its row's indices, as far as they are found at once. There may be none. The turns
-/// may write the word in one slot, which is not read here, or elements of the array in it, of which each turn reads no other than it writes.
+/// may write the words in some slots, which are not read here, or elements of the arrays in them, of which each turn reads no other than it
+/// writes.
 #[cycle(turns)]
 pub fn turn_ints<A: Arrays>(
     e: &IntExpr<'_>,
     names: &Names<'_>,
-    target: &Target,
+    targets: &[Target<'_>],
     frame: &Frame<A>,
     strip: &mut Strip,
 )
     ensures row { strip.new.row ≡ strip.old.row }
-    ensures values { HoldsInTurns names.now target.now (λ u. value_of frame.now.limits in_memory (int_view e.now) None u) frame.now.memory strip.new }
+    ensures values { HoldsInTurns names.now (map written targets.now)
+        (λ u. value_of frame.now.limits in_memory (int_view e.now) None u) frame.now.memory strip.new }
 {
     match e {
-        IntExpr::Number(_) | IntExpr::Local(_) => leaf(e, names, target, frame, strip),
-        IntExpr::Element(slot, index, _) => element(*slot, index, names, target, frame, strip),
-        IntExpr::Negative(e) => negatives(e, names, target, frame, strip),
-        IntExpr::Sum(a, b) => both(Wrapping::Sum, a, b, names, target, frame, strip),
-        IntExpr::Difference(a, b) => both(Wrapping::Difference, a, b, names, target, frame, strip),
-        IntExpr::Product(a, b) => both(Wrapping::Product, a, b, names, target, frame, strip),
-        IntExpr::Quotient(a, b, _) => quotients(a, b, names, target, frame, strip),
-        IntExpr::Remainder(a, b, _) => remainders(a, b, names, target, frame, strip),
+        IntExpr::Number(_) | IntExpr::Local(_) => leaf(e, names, targets, frame, strip),
+        IntExpr::Element(slot, index, _) => element(*slot, index, names, targets, frame, strip),
+        IntExpr::Negative(e) => negatives(e, names, targets, frame, strip),
+        IntExpr::Sum(a, b) => both(Wrapping::Sum, a, b, names, targets, frame, strip),
+        IntExpr::Difference(a, b) => both(Wrapping::Difference, a, b, names, targets, frame, strip),
+        IntExpr::Product(a, b) => both(Wrapping::Product, a, b, names, targets, frame, strip),
+        IntExpr::Quotient(a, b, _) => quotients(a, b, names, targets, frame, strip),
+        IntExpr::Remainder(a, b, _) => remainders(a, b, names, targets, frame, strip),
         _ => strip.size = 0,
     }
 }

@@ -1,13 +1,13 @@
 -- A truth value's word says whether the element's word is any but 0.
 -- These are the answers to the goals of `element`.
-use Rattle.std.proofs.Common.{◌≡◌, ◌<◌, pos, not, length, get_or, sym, subst, ap, ◌∙◌}
+use Rattle.std.proofs.Common.{◌≡◌, ◌<◌, pos, not, map, length, get_or, sym, subst, ap, ◌∙◌}
 use Rattle.std.specs.Ordering.{int_eq}
 use Rattle.std.proofs.lemmas.Option.{slice_get_within, get_or_from_slice_get}
 use Rattle.dpl_array.specs.Elements.{Row}
 use Rattle.dpl_language.specs.Tree.{BoolKind}
 use Rattle.dpl_language.specs.Values.{kept_number}
 use Rattle.dpl_words.specs.Words.{is_true}
-use Rattle.dpl_strips.specs.Strips.{IsInOwnTurn}
+use Rattle.dpl_strips.specs.Strips.{written, IsInOwnTurn}
 use Rattle.dpl_strips.proofs.truth_strips.element.Goals as goal
 
 pub returns-in-Some-clause-values : goal.returns-in-Some-clause-values
@@ -20,5 +20,5 @@ returns-in-Some-clause-values g c at k below cap =
       not (int_eq (get_or words k (pos 0)) (pos 0)),
       c.settle.ensures.words k cap ∙ ap (λ n. kept_number (is_true n)) (sym same),
       λ u turn. c.in-Some.ensures BoolKind at k within cap u
-          (subst (λ (row : Row). IsInOwnTurn c.args.names.now c.args.target.now row k c.args.frame.now.memory u) (c.settle.ensures.row ∙ c.copy.ensures.row) turn),
+          (subst (λ (row : Row). IsInOwnTurn c.args.names.now (map written c.args.targets.now) row k c.args.frame.now.memory u) (c.settle.ensures.row ∙ c.copy.ensures.row) turn),
     )

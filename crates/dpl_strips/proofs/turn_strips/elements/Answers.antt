@@ -1,31 +1,42 @@
 -- An element is found where its array hasn't changed, or where it is the one that the turn writes itself.
 -- These are the answers to the goals of `elements`.
-use Rattle.std.proofs.Common.{◌≡◌, ℕ, ℤ, pos, get_or, sym, ap, subst, ◌∙◌, arith, rules}
+use Rattle.std.proofs.Common.{◌≡◌, ℕ, ℤ, List, pos, map, get_or, Option, Some, None, option_map, sym, ap, ◌∙◌, rules}
 use Rattle.std.proofs.lemmas.Option.{slice_get-get_or}
-use Rattle.dpl_array.specs.Elements.{Row, behind}
-use Rattle.dpl_memory.specs.Memory.{Memory, held_at, array_at}
+use Rattle.dpl_array.specs.Elements.{behind}
+use Rattle.dpl_memory.specs.Memory.{held_at, array_at}
+use Rattle.dpl_strips.specs.Strips.{written}
 use Rattle.dpl_strips.proofs.Strips.{element-value}
-use Rattle.dpl_strips.proofs.turn_strips.elements.Goals.{else-slot-target-via-then-slot-target+else-not-is_same, else-slot-target-via-else-slot-target}
+use Rattle.dpl_strips.proofs.Targets.{none-free, written_at-own, own-words, own-kept}
 use Rattle.dpl_strips.proofs.turn_strips.elements.Goals as goal
 
--- what hasn't changed of one row, and of one slot, hasn't changed of these
-own_word : (at own : Row) (slot target : ℕ) (k : ℕ) (s u : Memory) → at ≡ own → slot ≡ target
-    → held_at (behind k own) (array_at target u) ≡ held_at (behind k own) (array_at target s) → held_at (behind k at) (array_at slot u) ≡ held_at (behind k at) (array_at slot s)
-own_word at own slot target k s u row same kept =
-    subst (λ row. held_at (behind k row) (array_at slot u) ≡ held_at (behind k row) (array_at slot s)) (sym row)
-    (subst (λ slot. held_at (behind k own) (array_at slot u) ≡ held_at (behind k own) (array_at slot s)) (sym same) kept)
-
-pub returns : goal.returns
-returns g c kind name k below within u turn =
+pub returns-in_default : goal.returns-in_default
+returns-in_default g c kind name k below within u turn =
     let f = c.args.frame.now in
     let slot = c.args.slot in
-    let target = c.args.target.now in
-    let row = c.in_ok-at.at in
+    let at = c.in_ok-at.at in
     let word : ℤ = get_or c.run.result.now k (pos 0) in
-    let same : held_at (behind k row) (array_at slot u) ≡ held_at (behind k row) (array_at slot f.memory) =
-    elim c.else-slot-target.branch [
-      | else-slot-target-via-then-slot-target+else-not-is_same w ↦ own_word row target.at slot target.slot k f.memory u (w.is_same.ensures (search rules)) (omega (arith, w.if-slot-target.true)) turn.own
-      | else-slot-target-via-else-slot-target w ↦ ap (held_at (behind k row)) (turn.turn.arrays slot (λ is. omega (arith, w.if-slot-target.false, is)))
-    ] in
-    element-value f.limits kind slot c.args.index.now name u (behind k row) word (c.in_ok-at.ensures k within u turn.turn)
-    (same ∙ c.run.ensures k word (slice_get-get_or c.run.result.now k (pos 0) below))
+    let free = none-free slot (map written c.args.targets.now) (λ x. written x.now) c.target_at.result c.target_at.ensures (search rules) in
+    element-value f.limits kind slot c.args.index.now name u (behind k at) word (c.in_ok-at.ensures k within u turn.turn)
+    (ap (held_at (behind k at)) (turn.turn.arrays slot free) ∙ c.run.ensures k word (slice_get-get_or c.run.result.now k (pos 0) below))
+
+pub returns-in-Some : goal.returns-in-Some
+returns-in-Some g c kind name k below within u turn =
+    let f = c.args.frame.now in
+    let slot = c.args.slot in
+    let at = c.in_ok-at.at in
+    let x = written c.in-Some-target.target.now in
+    let own = written_at-own slot k f.memory u (map written c.args.targets.now) x turn.own (sym c.target_at.ensures ∙ ap (option_map (λ x. written x.now)) c.in-Some-target.is) in
+    element-value f.limits kind slot c.args.index.now name u (behind k at) (get_or c.in-Some.words.now k (pos 0)) (c.in_ok-at.ensures k within u turn.turn)
+    (own-words slot k f.memory u x at c.in-Some.words.now own (c.is_same.ensures (search rules)) (ap (option_map (λ ws. ws.now)) c.in-Some.is))
+
+pub returns-in-None : goal.returns-in-None
+returns-in-None g c kind name k below within u turn =
+    let f = c.args.frame.now in
+    let slot = c.args.slot in
+    let at = c.in_ok-at.at in
+    let word : ℤ = get_or c.run.result.now k (pos 0) in
+    let x = written c.in-Some-target.target.now in
+    let own = written_at-own slot k f.memory u (map written c.args.targets.now) x turn.own (sym c.target_at.ensures ∙ ap (option_map (λ x. written x.now)) c.in-Some-target.is) in
+    element-value f.limits kind slot c.args.index.now name u (behind k at) word (c.in_ok-at.ensures k within u turn.turn)
+    (own-kept slot k f.memory u x at own (c.is_same.ensures (search rules)) (ap (option_map (λ ws. ws.now)) c.in-None.is)
+    ∙ c.run.ensures k word (slice_get-get_or c.run.result.now k (pos 0) below))
