@@ -277,7 +277,7 @@ fn both<A: Arrays>(
     ensures values { HoldsInTurns names.now (map written targets.now) (λ u. value_of frame.now.limits in_memory
         (two (int_view a.now) nowhere (infix_of op) (int_view b.now)) None u) frame.now.memory strip.new }
 {
-    let Some(right) = right_of(b, names, targets, strip.row, frame) else {
+    let Some(right) = right_of(b, names, &*targets, strip.row, &*frame) else {
         of_two(op, a, b, names, targets, frame, strip);
         return;
     };

@@ -19,24 +19,24 @@ returns-in_default g c kind name k below within u turn =
     element-value f.limits kind slot c.args.index.now name u (behind k at) word (c.in_ok-at.ensures k within u turn.turn)
     (ap (held_at (behind k at)) (turn.turn.arrays slot free) ∙ c.run.ensures k word (slice_get-get_or c.run.result.now k (pos 0) below))
 
-pub returns-in-Some : goal.returns-in-Some
-returns-in-Some g c kind name k below within u turn =
+pub returns-in-Some-words : goal.returns-in-Some-words
+returns-in-Some-words g c kind name k below within u turn =
     let f = c.args.frame.now in
     let slot = c.args.slot in
     let at = c.in_ok-at.at in
-    let x = written c.in-Some-target.target.now in
-    let own = written_at-own slot k f.memory u (map written c.args.targets.now) x turn.own (sym c.target_at.ensures ∙ ap (option_map (λ x. written x.now)) c.in-Some-target.is) in
-    element-value f.limits kind slot c.args.index.now name u (behind k at) (get_or c.in-Some.words.now k (pos 0)) (c.in_ok-at.ensures k within u turn.turn)
-    (own-words slot k f.memory u x at c.in-Some.words.now own (c.is_same.ensures (search rules)) (ap (option_map (λ ws. ws.now)) c.in-Some.is))
+    let x = written c.in-Some.target.now in
+    let own = written_at-own slot k f.memory u (map written c.args.targets.now) x turn.own (sym c.in-Some.ensures) in
+    element-value f.limits kind slot c.args.index.now name u (behind k at) (get_or c.in-Some-words.words.now k (pos 0)) (c.in_ok-at.ensures k within u turn.turn)
+    (own-words slot k f.memory u x at c.in-Some-words.words.now own (c.is_same.ensures (search rules)) (ap (option_map (λ ws. ws.now)) c.in-Some-words.is))
 
 pub returns-in-None : goal.returns-in-None
 returns-in-None g c kind name k below within u turn =
     let f = c.args.frame.now in
     let slot = c.args.slot in
     let at = c.in_ok-at.at in
-    let word : ℤ = get_or c.run.result.now k (pos 0) in
-    let x = written c.in-Some-target.target.now in
-    let own = written_at-own slot k f.memory u (map written c.args.targets.now) x turn.own (sym c.target_at.ensures ∙ ap (option_map (λ x. written x.now)) c.in-Some-target.is) in
+    let word : ℤ = get_or c.run-in-None.result.now k (pos 0) in
+    let x = written c.in-Some.target.now in
+    let own = written_at-own slot k f.memory u (map written c.args.targets.now) x turn.own (sym c.in-Some.ensures) in
     element-value f.limits kind slot c.args.index.now name u (behind k at) word (c.in_ok-at.ensures k within u turn.turn)
     (own-kept slot k f.memory u x at own (c.is_same.ensures (search rules)) (ap (option_map (λ ws. ws.now)) c.in-None.is)
-    ∙ c.run.ensures k word (slice_get-get_or c.run.result.now k (pos 0) below))
+    ∙ c.run-in-None.ensures k word (slice_get-get_or c.run-in-None.result.now k (pos 0) below))
