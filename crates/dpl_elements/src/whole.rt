@@ -38,6 +38,7 @@ use dpl_strips::{promoted_ints, repeat};
 use dpl_tree::Assign;
 use dpl_values::budget::within_budget;
 use dpl_values::{Alone, int_domain, promoted_int_value, promoted_truth_value, truth_domain};
+use std::alloc::AllocError;
 
 /// One int at each index.
 #[derive(Clone, Copy)]
@@ -58,10 +59,15 @@ impl<'e> Turns for Fill<'e> {
         change(self.name, self.op, self.sign, index, self.value, frame)
     }
 
-    fn make_row<A: Arrays>(&self, row: Row, most: usize, frame: &mut Frame<A>) -> usize {
+    fn make_row<A: Arrays>(
+        &self,
+        row: Row,
+        most: usize,
+        frame: &mut Frame<A>,
+    ) -> Result<usize, AllocError> {
         let mut strip = Strip::none(row);
         repeat(&mut strip, self.value);
-        put_row(self.name, self.op, self.sign, row, &mut strip, most, frame)
+        Ok(put_row(self.name, self.op, self.sign, row, &mut strip, most, frame))
     }
 
     fn apart(&self) -> Option<Apart<'_>> {
@@ -90,10 +96,15 @@ impl<'e, 'x> Turns for Promote<'e, 'x> {
         change(self.name, self.op, self.sign, index, value, frame)
     }
 
-    fn make_row<A: Arrays>(&self, row: Row, most: usize, frame: &mut Frame<A>) -> usize {
+    fn make_row<A: Arrays>(
+        &self,
+        row: Row,
+        most: usize,
+        frame: &mut Frame<A>,
+    ) -> Result<usize, AllocError> {
         let mut strip = Strip::none(row);
         promoted_ints(self.e, frame, &mut strip);
-        put_row(self.name, self.op, self.sign, row, &mut strip, most, frame)
+        Ok(put_row(self.name, self.op, self.sign, row, &mut strip, most, frame))
     }
 
     fn apart(&self) -> Option<Apart<'_>> {
@@ -177,7 +188,12 @@ impl<'e, 'x> Turns for WholeTurns<'e, 'x> {
         }
     }
 
-    fn make_row<A: Arrays>(&self, row: Row, most: usize, frame: &mut Frame<A>) -> usize {
+    fn make_row<A: Arrays>(
+        &self,
+        row: Row,
+        most: usize,
+        frame: &mut Frame<A>,
+    ) -> Result<usize, AllocError> {
         match self {
             WholeTurns::Fill(turns) => turns.make_row(row, most, frame),
             WholeTurns::Promote(turns) => turns.make_row(row, most, frame),

@@ -1,5 +1,6 @@
 -- The turns of a loop from a place on, by the turn at that place.
-use Rattle.std.proofs.Common.{◌≡◌, ℕ, zero, suc, ◌+◌, ◌≤◌, ◌<◌, arith, List, drop, length, slice_get, Some, Err, sym, ap, ◌∙◌}
+use Rattle.std.proofs.Common.{◌≡◌, ℕ, zero, suc, ◌+◌, ◌≤◌, ◌<◌, arith, List, drop, length, slice_get, Some, Result, Ok, Err, sym, ap, ◌∙◌}
+use Rattle.std.specs.Prelude.{IfOk}
 use Rattle.std.proofs.lemmas.Option.{slice_get_within}
 use Rattle.dpl_range.proofs.Lists.{drop-slice_get}
 use Rattle.dpl_array.specs.Elements.{Row, behind}
@@ -10,6 +11,16 @@ use Rattle.dpl_memory.specs.Memory.{Memory}
 use Rattle.dpl_loop.specs.declared.stop.RunStop.{RunStop}
 use Rattle.dpl_loop.specs.Runs.{AreDone, RunsTo}
 use Rattle.dpl_loop.proofs.Ends.{then_do-halts, halts-alike}
+
+-- what follows of a value, where there is one
+pub ok-then : {A E : Type 0} {P Q : A → Type 0} (r : Result A E) → IfOk r P → ((x : A) → P x → Q x) → IfOk r Q
+ok-then (Ok x) p go = go x p
+ok-then (Err e) p go = tt
+
+module _ {A E : Type 0} {P Q R : A → Type 0} where
+  pub ok-both : (r : Result A E) → IfOk r P → IfOk r Q → ((x : A) → P x → Q x → R x) → IfOk r R
+  ok-both (Ok x) p q go = go x p q
+  ok-both (Err e) p q go = tt
 
 module _ (turn : Index → Run Memory) (ts : List Index) (k : ℕ) (t : Index) (s next : Memory) (done after : Deeds) (at : slice_get ts k ≡ Some t) where
   order-at : in_order turn (drop k ts) s done ≡ then_do (turn t s done) (in_order turn (drop (k + 1) ts))

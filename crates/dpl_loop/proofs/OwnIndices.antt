@@ -1,5 +1,5 @@
 -- A loop over the indices that a locale owns is that over all indices, in which the others do nothing.
-use Rattle.std.proofs.Common.{◌≡◌, ℕ, ◌==◌, ◌<◌, Bool, true, false, cond, List, [], ◌∷◌, refl, ap, ◌∙◌}
+use Rattle.std.proofs.Common.{◌≡◌, ℕ, ◌==◌, ◌<◌, ◌≤◌, arith, Bool, true, false, cond, List, [], ◌∷◌, refl, ap, ◌∙◌}
 use Rattle.std.specs.Prelude.{if◌then◌else◌}
 use Rattle.std.specs.List.{filter}
 use Rattle.dpl_array.specs.Elements.{Row, behind}
@@ -22,13 +22,13 @@ module _ (owns : Index → ℕ) (l : ℕ) (turn : Index → Run Memory) where
 
   -- the turns of a row, of which all are the locale's, or none is
   module _ (row : Row) (first size : ℕ) (same : (k : ℕ) → k < size → owns (behind k row) ≡ first) where
-    pub own-done : (before after : Memory) → (first == l) ≡ true → AreDone turn row size before after → AreDone (owned_turn owns l turn) row size before after
-    own-done before after is are = record {
+    pub own-done : (made : ℕ) (before after : Memory) → (first == l) ≡ true → made ≤ size → AreDone turn row made before after → AreDone (owned_turn owns l turn) row made before after
+    own-done made before after is most are = record {
       between = are.between;
       begins = are.begins;
       ends = are.ends;
       each = λ k below done.
-          ap (λ c. if c then turn (behind k row) (are.between k) done else Done (are.between k) done) (ap (λ n. n == l) (same k below) ∙ is)
+          ap (λ c. if c then turn (behind k row) (are.between k) done else Done (are.between k) done) (ap (λ n. n == l) (same k (omega (arith, below, most))) ∙ is)
           ∙ are.each k below done;
     }
 

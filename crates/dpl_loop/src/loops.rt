@@ -61,9 +61,11 @@ pub(crate) fn turns_of<A: Arrays, T: Turns, G: Gate>(
         (in_order (named_turn (T.turn turns.now frame.old.limits)) (indices domain.now) frame.old.memory done) }
     ensures limits { frame.new.limits ≡ frame.old.limits }
 {
-    let made = begun(turns, domain, frame, gate);
+    let Ok(made) = begun(turns, domain, frame, gate) else {
+        return Err(RunStop::Memory);
+    };
     if made != 0 {
-        return together(turns, domain, made, map, frame, gate);
+        return together(turns, domain, made as u64, map, frame, gate);
     }
     let mut indices = domain.cursor();
     for place in 0..domain.size() {
@@ -110,9 +112,11 @@ pub fn forall_line<A: Arrays, T: Turns, G: Gate>(
         (in_order (named_turn (T.turn turns.now frame.old.limits)) (indices_in (range_word over.now ∷ [])) frame.old.memory done) }
     ensures limits { frame.new.limits ≡ frame.old.limits }
 {
-    let made = begun(turns, over, frame, gate);
+    let Ok(made) = begun(turns, over, frame, gate) else {
+        return Err(RunStop::Memory);
+    };
     if made != 0 {
-        return together(turns, over, made, map, frame, gate);
+        return together(turns, over, made as u64, map, frame, gate);
     }
     for place in 0..over.range.size() {
         let Some(index) = over.at(place) else {

@@ -23,6 +23,7 @@ use dpl_array::Row;
 use dpl_domain::Index;
 use dpl_frame::{Arrays, Frame};
 use dpl_map::Map;
+use std::alloc::AllocError;
 
 // The turns of the indices that a locale owns, as turns over whatever indices.
 #[derive(Drop)]
@@ -44,12 +45,17 @@ impl<'a, T: Turns> Turns for OwnTurns<'a, T> {
         }
     }
 
-    fn make_row<A: Arrays>(&self, row: Row, most: usize, frame: &mut Frame<A>) -> usize {
+    fn make_row<A: Arrays>(
+        &self,
+        row: Row,
+        most: usize,
+        frame: &mut Frame<A>,
+    ) -> Result<usize, AllocError> {
         let size = steady(self.map, &row, most);
         if self.map.owner(row.first()) == self.locale {
             self.turns.make_row(row, size, frame)
         } else {
-            size
+            Ok(size)
         }
     }
 }

@@ -15,11 +15,12 @@ use crate::turns::Turns;
 use dpl_domain::Index;
 use dpl_frame::{Arrays, Frame};
 use dpl_map::Map;
+use std::alloc::AllocError;
 
 // The fewest turns of a row that are asked for together: fewer cost more than they serve.
 const FEW: u64 = 16;
 
-// How many turns are made at once from the index at a place on.
+// How many turns are made at once from the index at a place on, unless memory ran out.
 #[inline(always)]
 fn row<A: Arrays, P: Places, T: Turns>(
     turns: &T,
@@ -27,39 +28,43 @@ fn row<A: Arrays, P: Places, T: Turns>(
     index: Index,
     place: u64,
     frame: &mut Frame<A>,
-) -> usize
+) -> Result<usize, AllocError>
     requires { slice_get (P.indices over.now) place ≡ Some index }
-    ensures within { place + result ≤ length (P.indices over.now) }
-    ensures goes { (done : Deeds)
-        → in_order (named_turn (T.turn turns.now frame.old.limits)) (drop (place + result) (P.indices over.now)) frame.new.memory done
-        ≡ in_order (named_turn (T.turn turns.now frame.old.limits)) (drop place (P.indices over.now)) frame.old.memory done }
+    ensures within { IfOk result (λ made. place + made ≤ length (P.indices over.now)) }
+    ensures goes { (done : Deeds) → IfOk result (λ made.
+        in_order (named_turn (T.turn turns.now frame.old.limits)) (drop (place + made) (P.indices over.now)) frame.new.memory done
+        ≡ in_order (named_turn (T.turn turns.now frame.old.limits)) (drop place (P.indices over.now)) frame.old.memory done) }
     ensures limits { frame.new.limits ≡ frame.old.limits }
 {
     let (row, left) = over.row(index, place);
     if left < FEW {
-        return 0;
+        return Ok(0);
     }
     turns.make_row(row, left as usize, frame)
 }
 
 /// How many turns are made at once from the first index on. None where a gate is to be asked for them.
+///
+/// # Errors
+/// Out of memory.
 pub(crate) fn begun<A: Arrays, P: Places, T: Turns, G: Gate>(
     turns: &T,
     over: &P,
     frame: &mut Frame<A>,
     gate: &G,
-) -> u64
-    ensures within { result ≤ length (P.indices over.now) }
-    ensures goes { (done : Deeds) → in_order (named_turn (T.turn turns.now frame.old.limits)) (drop result (P.indices over.now)) frame.new.memory done
-        ≡ in_order (named_turn (T.turn turns.now frame.old.limits)) (P.indices over.now) frame.old.memory done }
+) -> Result<usize, AllocError>
+    ensures within { IfOk result (λ made. made ≤ length (P.indices over.now)) }
+    ensures goes { (done : Deeds) → IfOk result (λ made.
+        in_order (named_turn (T.turn turns.now frame.old.limits)) (drop made (P.indices over.now)) frame.new.memory done
+        ≡ in_order (named_turn (T.turn turns.now frame.old.limits)) (P.indices over.now) frame.old.memory done) }
     ensures limits { frame.new.limits ≡ frame.old.limits }
 {
     if !gate.is_open() {
-        return 0;
+        return Ok(0);
     }
     match over.at(0) {
-        Some(first) => row(turns, over, first, 0, frame) as u64,
-        None => 0,
+        Some(first) => row(turns, over, first, 0, frame),
+        None => Ok(0),
     }
 }
 
@@ -83,7 +88,9 @@ fn turns_from<A: Arrays, P: Places, T: Turns, G: Gate>(
     let Some(index) = over.at(place) else {
         unreachable!()
     };
-    let made = row(turns, over, index, place, frame);
+    let Ok(made) = row(turns, over, index, place, frame) else {
+        return Err(RunStop::Memory);
+    };
     if made == 0 {
         entered(turns, index, place, map, frame, gate)?;
         return Ok(place + 1);

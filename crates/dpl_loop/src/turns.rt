@@ -1,6 +1,6 @@
 // What a forall does at each index of what it runs over.
 
-ghost use Rattle.std.specs.Prelude.{◌≡◌, ◌≤◌, IfSome};
+ghost use Rattle.std.specs.Prelude.{◌≡◌, ◌≤◌, IfSome, IfOk};
 ghost use Rattle.dpl_language.specs.Values.{Index as IndexValue};
 ghost use Rattle.dpl_language.specs.Outcome.{Deeds, Run};
 ghost use Rattle.dpl_language.specs.Environment.{Limits};
@@ -13,6 +13,7 @@ use crate::stop::RunStop;
 use dpl_array::Row;
 use dpl_domain::Index;
 use dpl_frame::{Arrays, Frame};
+use std::alloc::AllocError;
 
 /// The turns of a forall, over whichever frames. A turn prints nothing and changes the memory alone.
 pub trait Turns {
@@ -29,12 +30,20 @@ pub trait Turns {
 
     /// Makes the turns of a row's indices, at most so many, where several are done at once; how many it has made. There may be none, and
     /// none of them has a fault.
-    fn make_row<A: Arrays>(&self, row: Row, most: usize, frame: &mut Frame<A>) -> usize
-        ensures most { result ≤ most }
-        ensures done { AreDone (turn self.now frame.old.limits) row result frame.old.memory frame.new.memory }
+    ///
+    /// # Errors
+    /// Out of memory.
+    fn make_row<A: Arrays>(
+        &self,
+        row: Row,
+        most: usize,
+        frame: &mut Frame<A>,
+    ) -> Result<usize, AllocError>
+        ensures most { IfOk result (λ made. made ≤ most) }
+        ensures done { IfOk result (λ made. AreDone (turn self.now frame.old.limits) row made frame.old.memory frame.new.memory) }
         ensures limits { frame.new.limits ≡ frame.old.limits }
     {
-        0
+        Ok(0)
     }
 
     /// How the turns may be made apart, if they may. Turns that don't tell it are made in order.

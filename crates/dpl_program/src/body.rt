@@ -16,6 +16,7 @@ use dpl_nodes::{
     Step, TruthFold,
 };
 use dpl_steps::{Context, Crew, Team, WholeTurns, bind, make_row, run};
+use std::alloc::AllocError;
 use std::marker::PhantomData;
 
 // In a turn of a forall, over frames with any arrays.
@@ -145,7 +146,12 @@ impl<'b, 't> Turns for Body<'b, 't> {
         run(self.steps, &context, frame, &mut ())
     }
 
-    fn make_row<A: Arrays>(&self, row: Row, most: usize, frame: &mut Frame<A>) -> usize {
+    fn make_row<A: Arrays>(
+        &self,
+        row: Row,
+        most: usize,
+        frame: &mut Frame<A>,
+    ) -> Result<usize, AllocError> {
         make_row(&self.names, self.steps, row, most, frame)
     }
 

@@ -99,7 +99,9 @@ fn domain_turns<'t, C: Context>(
     ensures limits { frame.new.limits ≡ frame.old.limits }
 {
     let over = domain.domain();
-    let made = domain_rows(&over, names, body, frame);
+    let Ok(made) = domain_rows(&over, names, body, frame) else {
+        return Err(RunStop::Memory);
+    };
     if made == over.size() {
         return Ok(());
     }

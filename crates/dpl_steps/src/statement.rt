@@ -359,7 +359,9 @@ fn turns<'t, C: Context>(
         (in_turn (turn_in_memory frame.old.limits slot (steps_in C.standing body.now)) (members_of range) frame.old.memory (C.having out.old done)) }
     ensures limits { frame.new.limits ≡ frame.old.limits }
 {
-    let made = rows(range, slot, body, frame);
+    let Ok(made) = rows(range, slot, body, frame) else {
+        return Err(RunStop::Memory);
+    };
     for k in made..range.size() {
         turn(k, range, slot, body, context, frame, out)?;
     }

@@ -109,7 +109,7 @@ pub statement::turns-loop-k-init : goal.statement::turns-loop-k-init
 statement::turns-loop-k-init g t c =
     let having = g.C.Context.having in
     let standing = g.C.Context.standing in
-    record { ends = λ done. c.rows-made.ensures.goes standing (having c.args.out.now done); limits = c.rows-made.ensures.limits }
+    record { ends = λ done. c.in-Ok.ensures.goes standing (having c.args.out.now done); limits = c.in-Ok.ensures.limits }
 
 pub statement::turns-loop-k-preserved : goal.statement::turns-loop-k-preserved
 statement::turns-loop-k-preserved g t c =
@@ -439,10 +439,10 @@ each::domain_turns-loop-index-init g t c =
     record {
       ends = λ done.
           let d = having c.args.out.now done in
-          ap (λ ts. in_order turn ts c.domain_rows-made.new.frame.memory d) c.indices_behind-indices.ensures
-          ∙ c.domain_rows-made.ensures.goes standing d
+          ap (λ ts. in_order turn ts c.domain_rows.new.frame.memory d) c.indices_behind-indices.ensures
+          ∙ c.in-Ok.ensures.goes standing d
           ∙ ap (λ rs. in_order turn (indices rs) c.args.frame.now.memory d) c.domain-over.ensures.domain;
-      limits = c.domain_rows-made.ensures.limits;
+      limits = c.in-Ok.ensures.limits;
     }
 
 pub each::domain_turns-returns-in_err-domain_turn-clause-ends : goal.each::domain_turns-returns-in_err-domain_turn-clause-ends

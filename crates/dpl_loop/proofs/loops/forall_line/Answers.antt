@@ -15,7 +15,7 @@ use Rattle.dpl_loop.proofs.loops.forall_line.Goals as goal
 pub unreachable-requires : goal.unreachable-requires
 unreachable-requires g c =
     let r = range_word c.args.over.now in
-    line-there r c.loop-place.place (subst (λ n. c.loop-place.place < n) c.size-place-end.ensures.length c.loop-place-test.true) (sym c.at.ensures ∙ c.in_default.is)
+    line-there r c.loop-place.place (subst (λ n. c.loop-place.place < n) c.size-place-end.ensures.length c.loop-place-test.true) (sym c.at.ensures ∙ c.in_default-at.is)
 
 pub loop-place-preserved : goal.loop-place-preserved
 loop-place-preserved g c =

@@ -14,7 +14,7 @@ use Rattle.dpl_loop.proofs.loops.turns_of.Goals as goal
 pub unreachable-requires : goal.unreachable-requires
 unreachable-requires g c =
     let ts = indices c.args.domain.now in
-    let none = sym (slice_get-drop_first ts c.loop-place.place) ∙ ap (λ ts. slice_get ts 0) (sym c.loop-place.invariant.left) ∙ sym c.next.ensures.next ∙ c.in_default.is in
+    let none = sym (slice_get-drop_first ts c.loop-place.place) ∙ ap (λ ts. slice_get ts 0) (sym c.loop-place.invariant.left) ∙ sym c.next.ensures.next ∙ c.in_default-next.is in
     let size : c.size-place-end.result ≡ length ts = c.size-place-end.ensures.size in
     within-there ts c.loop-place.place (subst (λ n. c.loop-place.place < n) size c.loop-place-test.true) none
 
