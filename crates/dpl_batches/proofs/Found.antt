@@ -1,8 +1,8 @@
 -- Statements that are found one after another, and by the branches of an `if`: what they come to in a turn.
-use Rattle.std.proofs.Common.{◌≡◌, ◌≢◌, ◌<◌, ◌≤◌, ℕ, zero, suc, ℤ, pos, Bool, true, false, not, ◌&&◌, List, [], ◌∷◌, map, length, get_or, Option, Some, None, Ok, refl, sym, subst, ap, ◌∙◌, arith}
+use Rattle.std.proofs.Common.{◌≡◌, ◌≢◌, ◌<◌, ◌≤◌, ℕ, zero, suc, ℤ, pos, Bool, true, false, not, ◌&&◌, if◌then◌else◌, List, [], ◌∷◌, map, length, get_or, Option, Some, None, Ok, refl, sym, subst, ap, ◌∙◌, arith}
 use Rattle.std.specs.Ordering.{int_eq}
 use Rattle.dpl_array.specs.Elements.{Row}
-use Rattle.dpl_language.specs.Tree.{ExprTree, If, Else, NoElse, ElseDo, StmtTree, Stmts, NoStmts, Then}
+use Rattle.dpl_language.specs.Tree.{ExprTree, Block, If, Else, NoElse, ElseDo, StmtTree, Stmts, NoStmts, Then}
 use Rattle.dpl_language.specs.Values.{Truth, kept_number}
 use Rattle.dpl_language.specs.Outcome.{Deeds, Outcome, Done, Stop, Waits, then_do}
 use Rattle.dpl_language.specs.Environment.{Limits}
@@ -12,10 +12,13 @@ use Rattle.dpl_lowered.specs.Shapes.{nowhere}
 use Rattle.dpl_memory.specs.Memory.{Variable, Memory, in_memory}
 use Rattle.dpl_nodes.specs.declared.step.Names.{Names}
 use Rattle.dpl_nodes.specs.Steps.{listed}
+use Rattle.dpl_loop.specs.declared.strip.Strip.{Strip}
 use Rattle.dpl_strips.specs.Strips.{Written, IsFree, IsInOwnTurn}
+use Rattle.dpl_strips.specs.Truths.{TruthsHoldInTurns}
 use Rattle.dpl_elements.specs.Turns.{IsApart}
-use Rattle.dpl_batches.specs.Stores.{unmade, AreApart, Begins, goes_in, done_where}
+use Rattle.dpl_batches.specs.Stores.{unmade, AreApart, AreFound, HaveElements, Begins, goes_in, done_where, else_body, by_now, all_stored}
 use Rattle.dpl_batches.specs.declared.store.Store.{Store}
+use Rattle.dpl_batches.proofs.StoreTurns.{own-now}
 use Rattle.dpl_batches.proofs.Branching.{then_do-done, scoped-same, if-then, if-else}
 
 -- STORES ALIKE: of the same slots and rows
@@ -79,29 +82,106 @@ module _ (limits : Limits) where
   none-left true m done = refl
   none-left false m done = refl
 
+  -- what stands behind `else`, as statements
+  else-runs : (other : Else Variable) (m : Memory) (done : Deeds) → exec_else limits in_memory other m done ≡ exec_all limits in_memory (else_body other) m done
+  else-runs NoElse m done = refl
+  else-runs (ElseDo at t) m done = scoped-same (exec limits in_memory t) m done ∙ sym (then_do-done (exec limits in_memory t m done))
+
   -- AN IF, by what its branches come to
   pub if-found : (b c : Bool) (e : ExprTree Variable) (body : Stmts Variable) (other : Else Variable) (m after next : Memory) (done : Deeds)
       → value_of limits in_memory e None m ≡ Ok (Truth c)
       → exec_all limits in_memory (done_where (b && c) body) m done ≡ Done after done
-      → (b && not c ≡ true → exec_else limits in_memory other after done ≡ Done next done) → (b && not c ≡ false → after ≡ next)
+      → exec_all limits in_memory (done_where (b && not c) (else_body other)) after done ≡ Done next done
       → exec_all limits in_memory (done_where b (Then (If nowhere e (listed body) other) NoStmts)) m done ≡ Done next done
-  if-found true true e body other m after next done value first does leaves =
-      ap (λ o. then_do o (exec_all limits in_memory NoStmts)) (if-then limits e body other m done value ∙ first ∙ ap (λ (m : Memory). Done m done) (leaves refl))
-  if-found true false e body other m after next done value first does leaves =
+  if-found true true e body other m after next done value first second =
+      ap (λ o. then_do o (exec_all limits in_memory NoStmts)) (if-then limits e body other m done value ∙ first ∙ second)
+  if-found true false e body other m after next done value first second =
       let same : m ≡ after = done-same m after done first in
       ap (λ o. then_do o (exec_all limits in_memory NoStmts))
-      (if-else limits e body other m done value ∙ ap (λ m. exec_else limits in_memory other m done) same ∙ does refl)
-  if-found false c e body other m after next done value first does leaves = first ∙ ap (λ (m : Memory). Done m done) (leaves refl)
-
-  -- what stands behind `else`, by itself
-  pub else-found : (t : StmtTree Variable) (m next : Memory) (done : Deeds) → exec_all limits in_memory (done_where true (Then t NoStmts)) m done ≡ Done next done
-      → exec_else limits in_memory (ElseDo nowhere t) m done ≡ Done next done
-  else-found t m next done is = scoped-same (exec limits in_memory t) m done ∙ sym (then_do-done (exec limits in_memory t m done)) ∙ is
-
-  pub else-left : (t : StmtTree Variable) (m next : Memory) (done : Deeds) → exec_all limits in_memory (done_where false (Then t NoStmts)) m done ≡ Done next done → m ≡ next
-  else-left t m next done is = done-same m next done is
+      (if-else limits e body other m done value ∙ else-runs other m done ∙ ap (λ m. exec_all limits in_memory (else_body other) m done) same ∙ second)
+  if-found false c e body other m after next done value first second = first ∙ second
 
 -- THE MASK OF A CONDITION
 pub goes-truth : (b : Bool) (ws : List ℤ) (k : ℕ) → get_or ws k (pos 0) ≡ kept_number (Truth b) → goes_in (Some ws) k ≡ b
 goes-truth true ws k is = ap (λ w. not (int_eq w (pos 0))) is
 goes-truth false ws k is = ap (λ w. not (int_eq w (pos 0))) is
+
+-- where it holds, and where it doesn't
+pub chosen-goes : (m h : ℤ) → not (int_eq (if int_eq m (pos 0) then pos 0 else h) (pos 0)) ≡ (not (int_eq m (pos 0)) && not (int_eq h (pos 0)))
+chosen-goes m h = by (int_eq m (pos 0))
+  where
+    by : (b : Bool) → not (int_eq (if b then pos 0 else h) (pos 0)) ≡ (not b && not (int_eq h (pos 0)))
+    by true = refl
+    by false = refl
+
+pub opposite-goes : (h : ℤ) → not (int_eq (if int_eq h (pos 0) then pos 1 else pos 0) (pos 0)) ≡ not (not (int_eq h (pos 0)))
+opposite-goes h = by (int_eq h (pos 0))
+  where
+    by : (b : Bool) → not (int_eq (if b then pos 1 else pos 0) (pos 0)) ≡ not (not b)
+    by true = refl
+    by false = refl
+
+-- A BRANCH AND ANOTHER, in the turns of a row
+module _
+    (limits : Limits) (names : Names) (row : Row) (s : Memory) (mask : Option (List ℤ)) (met unmet : List ℤ) (e : ExprTree Variable) (body : Stmts Variable) (other : Else Variable)
+    (xs ys zs : List Store) (known left size : ℕ) (apart : AreApart names xs) (holds : Strip) (begins : holds.row ≡ row) (enough : known ≤ holds.size) (few : left ≤ known) (fewer : size ≤ left)
+    (is_met : (k : ℕ) → k < 64 → goes_in (Some met) k ≡ (goes_in mask k && goes_in (Some holds.words) k))
+    (is_unmet : (k : ℕ) → k < 64 → goes_in (Some unmet) k ≡ (goes_in mask k && not (goes_in (Some holds.words) k)))
+    (truths : TruthsHoldInTurns names (map by_now xs) (λ u. value_of limits in_memory e None u) s holds)
+    (first : AreFound limits names row s body (Some met) left xs ys) (second : AreFound limits names row s (else_body other) (Some unmet) size ys zs) where
+  pub branches-found : AreFound limits names row s (Then (If nowhere e (listed body) other) NoStmts) mask size xs zs
+  branches-found = record {
+    alike = second.alike ∙ first.alike;
+    there = λ k below cap there. second.there k below cap (first.there k (omega (arith, below, fewer)) cap there);
+    does = λ k below cap there u begun done.
+        let truth = truths k (omega (arith, below, fewer, few, enough)) cap in
+        let m = all_stored xs k u in
+        let turn = own-now names xs row k s u apart there begun in
+        let value = truth.2 m (subst (λ row. IsInOwnTurn names (map by_now xs) row k s m) (sym begins) turn) in
+        let goes = goes-truth truth.0 holds.words k truth.1 in
+        let one = is_met k cap ∙ ap (λ b. goes_in mask k && b) goes in
+        let two = is_unmet k cap ∙ ap (λ b. goes_in mask k && not b) goes in
+        if-found limits (goes_in mask k) truth.0 e body other m (all_stored ys k u) (all_stored zs k u) done value
+        (ap (λ b. exec_all limits in_memory (done_where b body) m done) (sym one) ∙ first.does k (omega (arith, below, fewer)) cap there u begun done)
+        (ap (λ b. exec_all limits in_memory (done_where b (else_body other)) (all_stored ys k u) done) (sym two)
+        ∙ second.does k below cap (first.there k (omega (arith, below, fewer)) cap there) u (begins-alike names xs ys row k s u first.alike begun) done);
+  }
+
+-- THE NEXT STATEMENT of a list
+module _ (limits : Limits) (names : Names) (row : Row) (s : Memory) (mask : Option (List ℤ)) (whole : Stmts Variable) (xs : List Store) where
+  -- statements that are left come, from these stores on, to what all come to at the start
+  abbrev pub LeftToFind : Stmts Variable → ℕ → List Store → Type 0
+  LeftToFind body size ys =
+      (k : ℕ) → k < size → k < 64 → HaveElements xs k s → (u : Memory) → Begins names xs row k s u → (done : Deeds)
+      → exec_all limits in_memory (done_where (goes_in mask k) body) (all_stored ys k u) done ≡ exec_all limits in_memory (done_where (goes_in mask k) whole) (all_stored xs k u) done
+
+  pub next-left : (t : StmtTree Variable) (rest : Stmts Variable) (ys zs : List Store) (left size : ℕ) → size ≤ left → map unmade ys ≡ map unmade xs
+      → ((k : ℕ) → k < left → k < 64 → HaveElements xs k s → HaveElements ys k s)
+      → LeftToFind (Then t rest) left ys → AreFound limits names row s (Then t NoStmts) mask size ys zs → LeftToFind rest size zs
+  next-left t rest ys zs left size fewer alike elements before found k below cap there u begun done =
+      let here = elements k (omega (arith, below, fewer)) cap there in
+      next-found limits (goes_in mask k) t rest (all_stored ys k u) (all_stored zs k u) done
+      (found.does k below cap here u (begins-alike names xs ys row k s u alike begun) done)
+      ∙ before k (omega (arith, below, fewer)) cap there u begun done
+
+-- AN OWN WORD where a mask has the word 0, and else another one
+pub blended-goes : (m own word : ℤ) → (if int_eq m (pos 0) then own else word) ≡ (if not (int_eq m (pos 0)) then word else own)
+blended-goes m own word = by (int_eq m (pos 0))
+  where
+    by : (b : Bool) → (if b then own else word) ≡ (if not b then word else own)
+    by true = refl
+    by false = refl
+
+-- A BLOCK comes to what its statements come to, and nothing comes to itself
+pub block-found : (limits : Limits) (names : Names) (row : Row) (s : Memory) (mask : Option (List ℤ)) (body : Stmts Variable) (size : ℕ) (xs ys : List Store)
+    → AreFound limits names row s body mask size xs ys → AreFound limits names row s (Then (Block nowhere body nowhere) NoStmts) mask size xs ys
+block-found limits names row s mask body size xs ys found = record {
+  alike = found.alike;
+  there = found.there;
+  does = λ k below cap there u begun done. by (goes_in mask k) (all_stored xs k u) (all_stored ys k u) done (found.does k below cap there u begun done);
+}
+  where
+    by : (b : Bool) (m next : Memory) (done : Deeds) → exec_all limits in_memory (done_where b body) m done ≡ Done next done
+        → exec_all limits in_memory (done_where b (Then (Block nowhere body nowhere) NoStmts)) m done ≡ Done next done
+    by true m next done is = ap (λ o. then_do o (exec_all limits in_memory NoStmts)) (scoped-same (exec_all limits in_memory body) m done ∙ is)
+    by false m next done is = is

@@ -1,6 +1,6 @@
 -- What turns leave in variables: each such store is put into a slot of its own, so that it's one whether they are put turn by turn, or each in all turns.
 -- They leave all else of a memory as it is, and the variables of the loop may be bound before them or after.
-use Rattle.std.proofs.Common.{◌≡◌, ◌≢◌, ◌<◌, ◌≤◌, ℕ, zero, suc, ℤ, pos, Bool, true, false, List, [], ◌∷◌, map, length, length-set, set, get_or, slice_get, Option, Some, None, is_some, refl, sym, subst, ap, ◌∙◌, ⊎_elim, arith}
+use Rattle.std.proofs.Common.{◌≡◌, ◌≢◌, ◌<◌, ◌≤◌, ℕ, zero, suc, ℤ, pos, Bool, true, false, List, [], ◌∷◌, map, take, length, length-set, set, get_or, slice_get, Option, Some, None, is_some, refl, sym, subst, ap, ◌∙◌, ⊎_elim, arith}
 use Rattle.std.proofs.lemmas.Bool.{cases_Bool, cases_lt}
 use Rattle.std.proofs.lemmas.List.{set-get_or, get_or_past, get_or-set_same, get_or-set_other}
 use Rattle.std.proofs.lemmas.Option.{none-some, same_Some, slice_get-get_or}
@@ -12,11 +12,11 @@ use Rattle.dpl_memory.specs.Memory.{PlainKind, Held, Memory, no_array, array_at,
 use Rattle.dpl_nodes.specs.declared.fold.IntFold.{IntFold}
 use Rattle.dpl_nodes.specs.declared.step.Names.{Names}
 use Rattle.dpl_strips.specs.Strips.{Written, IsFree}
-use Rattle.dpl_elements.specs.Turns.{bound_at, IsApart}
+use Rattle.dpl_elements.specs.Turns.{bound_at, IsApart, HasRoom}
 use Rattle.dpl_elements.proofs.Alongside.{index-apart, held-elsewhere}
 use Rattle.dpl_elements.proofs.BoundAgain.{bound_at-over, bound_at-twice, bound_at-number, bound_at-arrays, bound_at-long}
 use Rattle.dpl_batches.specs.Folded.{folded_one_where, folded_where}
-use Rattle.dpl_batches.specs.Stores.{unmade, stored_by, stored, all_stored, stored_in_turns, each_stored, HasElement, HaveElements, AreApart}
+use Rattle.dpl_batches.specs.Stores.{unmade, stored_by, stored, all_stored, stored_in_turns, each_stored, HasElement, HaveElements, AreApart, HaveRoom}
 use Rattle.dpl_batches.specs.declared.store.Store.{Store}
 
 -- A LIST WITH ANOTHER THING AT A PLACE, which is made of the one that is there
@@ -400,3 +400,27 @@ turns-put x (suc k) s within made puts =
     ap (stored x k) (turns-put x k s (omega (arith, within)) made puts)
     ∙ puts-by x.is_made x.fold x k a s made puts
     ∙ ap (λ o. with_array x.slot (put_some held_with (behind k x.at) o a) s) (sym (slice_get-get_or x.words k (pos 0) (omega (arith, within))))
+
+-- of words that are taken from others, as far as they go
+slice_get-take : (n : ℕ) (ws : List ℤ) (k : ℕ) → k < n → slice_get (take n ws) k ≡ slice_get ws k
+slice_get-take zero ws k below = absurd (omega (arith, below))
+slice_get-take (suc n) [] k below = refl
+slice_get-take (suc n) (w ∷ ws) zero below = refl
+slice_get-take (suc n) (w ∷ ws) (suc k) below = slice_get-take n ws k (omega (arith, below))
+
+pub taken-put : (at : Row) (ws : List ℤ) (n k : ℕ) (a : Held) → k ≤ n → put_in_row held_with at (take n ws) k a ≡ put_in_row held_with at ws k a
+taken-put at ws n zero a few = refl
+taken-put at ws n (suc k) a few =
+    ap (λ o. put_some held_with (behind k at) o (put_in_row held_with at (take n ws) k a)) (slice_get-take n ws k (omega (arith, few)))
+    ∙ ap (put_some held_with (behind k at) (slice_get ws k)) (taken-put at ws n k a (omega (arith, few)))
+
+-- an unmade one nothing
+pub turns-unmade : (x : Store) (n : ℕ) (s : Memory) → x.is_made ≡ false → stored_in_turns x n s ≡ s
+turns-unmade x zero s none = refl
+turns-unmade x (suc k) s none = ap (λ b. stored_by b x.fold x k (stored_in_turns x k s)) none ∙ turns-unmade x k s none
+
+-- each has the room that all have
+pub room-at : (xs : List Store) (k : ℕ) (x : Store) → slice_get xs k ≡ Some x → HaveRoom xs → HasRoom x.at 64
+room-at [] k x at room = absurd (none-some x at)
+room-at (z ∷ xs) zero x at room = subst (λ (x : Store). HasRoom x.at 64) (same_Some z x at) room.0
+room-at (z ∷ xs) (suc k) x at room = room-at xs k x at room.1

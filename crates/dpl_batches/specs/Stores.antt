@@ -4,7 +4,7 @@
 use Rattle.std.specs.Prelude.{◌≡◌, ◌≢◌, ◌<◌, ℕ, zero, suc, pos, ℤ, Bool, true, false, not, List, [], ◌∷◌, map, length, get_or, Option, Some, None, is_some}
 use Rattle.std.specs.Ordering.{int_eq}
 use Rattle.dpl_array.specs.Elements.{Row, behind}
-use Rattle.dpl_language.specs.Tree.{Stmts, NoStmts}
+use Rattle.dpl_language.specs.Tree.{Else, NoElse, ElseDo, Stmts, NoStmts, Then}
 use Rattle.dpl_language.specs.Values.{Int}
 use Rattle.dpl_language.specs.Outcome.{Deeds, Done}
 use Rattle.dpl_language.specs.Environment.{Limits}
@@ -91,6 +91,11 @@ goes_in (Some ms) k = not (int_eq (get_or ms k (pos 0)) (pos 0))
 abbrev pub done_where : Bool → Stmts Variable → Stmts Variable
 done_where true body = body
 done_where false body = NoStmts
+
+-- what stands behind `else`, as statements
+abbrev pub else_body : Else Variable → Stmts Variable
+else_body NoElse = NoStmts
+else_body (ElseDo at t) = Then t NoStmts
 
 -- what statements come to in so many turns of a row: to what is kept back after them, where before them another was
 pub record AreFound (limits : Limits) (names : Names) (row : Row) (s : Memory) (body : Stmts Variable) (mask : Option (List ℤ)) (size : ℕ) (before after : List Store) : Type 0 where

@@ -5,9 +5,9 @@ ghost use Rattle.std.specs.Prelude.{◌≡◌, ◌≤◌, ◌<◌, ℕ, None, So
 ghost use Rattle.dpl_language.specs.Tree.{NoStmts, Then};
 ghost use Rattle.dpl_standing.specs.Standing.{Standing};
 ghost use Rattle.dpl_loop.specs.Runs.{AreDone};
-ghost use Rattle.dpl_readings.specs.Readings.{step_in, steps_in};
+ghost use Rattle.dpl_readings.specs.Readings.{step_in, else_in, steps_in};
 ghost use Rattle.dpl_elements.specs.Turns.{index_turn};
-ghost use Rattle.dpl_batches.specs.Stores.{AreApart, AreFound};
+ghost use Rattle.dpl_batches.specs.Stores.{else_body, AreApart, AreFound};
 
 use crate::variables::bind;
 use crate::keep::{mask_unless, mask_where, plain};
@@ -220,13 +220,31 @@ fn branches<'t, A: Arrays>(
     turn_truths(condition, names, &written[..stores.len()], frame, &mut holds);
     let known = size.min(holds.size);
     let met = mask_where(mask, &holds.words);
+    let unmet = mask_unless(mask, &holds.words);
     let left = statements(body, Some(&met), names, row, frame, stores, known);
+    alternative(otherwise, Some(&unmet), names, row, frame, stores, left)
+}
+
+// What stands behind `else`.
+#[cycle(found)]
+fn alternative<'t, A: Arrays>(
+    otherwise: &Else<'t>,
+    mask: Option<&[i64; STRIP]>,
+    names: &Names<'t>,
+    row: Row,
+    frame: &Frame<A>,
+    stores: &mut [Store],
+    size: usize,
+) -> usize
+    requires few { length stores.old ≤ 4 }
+    requires apart { AreApart names.now stores.old }
+    ensures most { result ≤ size }
+    ensures found { (w : Standing) → AreFound frame.now.limits names.now row frame.now.memory (else_body (else_in w otherwise.now))
+        (option_map (λ ms. ms.now) mask.entry) result stores.old stores.new }
+{
     match otherwise {
-        Else::Absent => left,
-        Else::Do(step) => {
-            let unmet = mask_unless(mask, &holds.words);
-            statement(step, Some(&unmet), names, row, frame, stores, left)
-        }
+        Else::Absent => size,
+        Else::Do(step) => statement(step, mask, names, row, frame, stores, size),
     }
 }
 
@@ -241,8 +259,8 @@ fn made<'t, A: Arrays>(
 ) -> Result<usize, AllocError>
     requires { length stores.old ≤ 4 }
     ensures most { IfOk result (λ made. made ≤ most) }
-    ensures done { IfOk result (λ made. (w : Standing)
-        → AreDone (index_turn frame.old.limits names.now (steps_in w body.now)) row made frame.old.memory frame.new.memory) }
+    ensures done { (w : Standing) → IfOk result (λ made.
+        AreDone (index_turn frame.old.limits names.now (steps_in w body.now)) row made frame.old.memory frame.new.memory) }
     ensures limits { frame.new.limits ≡ frame.old.limits }
 {
     if !has_room(row) || !are_apart(names, stores) {
@@ -269,8 +287,8 @@ pub(crate) fn make_batch<'t, A: Arrays>(
     frame: &mut Frame<A>,
 ) -> Result<usize, AllocError>
     ensures most { IfOk result (λ made. made ≤ most) }
-    ensures done { IfOk result (λ made. (w : Standing)
-        → AreDone (index_turn frame.old.limits names.now (steps_in w body.now)) row made frame.old.memory frame.new.memory) }
+    ensures done { (w : Standing) → IfOk result (λ made.
+        AreDone (index_turn frame.old.limits names.now (steps_in w body.now)) row made frame.old.memory frame.new.memory) }
     ensures limits { frame.new.limits ≡ frame.old.limits }
 {
     let mut found = [Variable { slot: 0, at: row }; MOST];

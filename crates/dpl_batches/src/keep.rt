@@ -132,8 +132,7 @@ fn ints<'t, A: Arrays>(
     let own = own_words(&stores[i], frame);
     combine(*op, own, &mut strip);
     blend(mask, own, &mut strip);
-    stores[i].words = strip.words;
-    stores[i].is_made = true;
+    stores[i].put(&strip.words);
     size.min(strip.size)
 }
 
@@ -163,8 +162,7 @@ fn truths<'t, A: Arrays>(
     let written = targets(stores, row);
     turn_truths(e, names, &written[..stores.len()], frame, &mut strip);
     blend(mask, own_words(&stores[i], frame), &mut strip);
-    stores[i].words = strip.words;
-    stores[i].is_made = true;
+    stores[i].put(&strip.words);
     size.min(strip.size)
 }
 
@@ -199,10 +197,7 @@ fn folds<'t, A: Arrays>(
     let mut strip = Strip::none(row);
     let written = targets(stores, row);
     turn_ints(e, names, &written[..stores.len()], frame, &mut strip);
-    stores[i].fold = Some(fold);
-    stores[i].mask = mask_words(mask);
-    stores[i].words = strip.words;
-    stores[i].is_made = true;
+    stores[i].fold(fold, &mask_words(mask), &strip.words);
     size.min(strip.size)
 }
 

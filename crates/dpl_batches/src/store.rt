@@ -1,7 +1,7 @@
 // What the turns of a row leave in variables, kept back until all their statements are found (specs/Stores.antt). Then each is put for all
 // these turns, one after another.
 
-ghost use Rattle.std.specs.Prelude.{◌≡◌, ◌≤◌, ◌<◌, ℕ, map, take, length, slice_get, Some, true, false, IfSome, IfOk};
+ghost use Rattle.std.specs.Prelude.{◌≡◌, ◌≤◌, ◌<◌, ℕ, map, take, drop, length, slice_get, Some, true, false, IfSome, IfOk};
 ghost use Rattle.dpl_frame.specs.Frames.{with_memory};
 ghost use Rattle.dpl_elements.specs.Turns.{HasRoom};
 ghost use Rattle.dpl_strips.specs.Strips.{written, IsFree};
@@ -48,6 +48,26 @@ impl Store {
             words: [0; STRIP],
             mask: [0; STRIP],
         }
+    }
+
+    /// These words are put, in place of others if there are any.
+    #[inline(always)]
+    pub(crate) fn put(&mut self, words: &[i64; STRIP])
+        ensures { self.new ≡ record self.old { is_made = true; words = words.now } }
+    {
+        self.is_made = true;
+        self.words = *words;
+    }
+
+    /// These words are folded by an operator, where a mask has another word than 0.
+    #[inline(always)]
+    pub(crate) fn fold(&mut self, fold: IntFold, mask: &[i64; STRIP], words: &[i64; STRIP])
+        ensures { self.new ≡ record self.old { fold = Some fold; is_made = true; words = words.now; mask = mask.now } }
+    {
+        self.fold = Some(fold);
+        self.is_made = true;
+        self.mask = *mask;
+        self.words = *words;
     }
 
     /// As statements find it by now.
@@ -99,11 +119,11 @@ pub(crate) fn place_of(stores: &[Store], slot: usize) -> Option<usize>
     None
 }
 
-// Whether a slot is that of a store.
-fn is_kept(stores: &[Store], slot: usize) -> bool
-    ensures { result ≡ false → IsFree (map unmade stores.now) slot }
+// Whether a slot is that of a store, from a place on.
+fn is_kept(stores: &[Store], from: usize, slot: usize) -> bool
+    ensures { result ≡ false → IsFree (map unmade (drop from stores.now)) slot }
 {
-    for k in 0..stores.len() {
+    for k in from..stores.len() {
         if stores[k].slot == slot {
             return true;
         }
@@ -125,7 +145,7 @@ pub(crate) fn are_apart(names: &Names<'_>, stores: &[Store]) -> bool
         let _ = (store.at.first().rank(), store.at.step());
         if store.is_made
             || is_variable(names, store.slot)
-            || is_kept(&stores[left + 1..], store.slot)
+            || is_kept(stores, left + 1, store.slot)
             || !has_room(store.at)
         {
             return false;

@@ -211,8 +211,8 @@ pub fn make_row<'t, A: Arrays>(
     frame: &mut Frame<A>,
 ) -> Result<usize, AllocError>
     ensures most { IfOk result (λ made. made ≤ most) }
-    ensures done { IfOk result (λ made. (w : Standing)
-        → AreDone (index_turn frame.old.limits names.now (steps_in w body.now)) row made frame.old.memory frame.new.memory) }
+    ensures done { (w : Standing) → IfOk result (λ made.
+        AreDone (index_turn frame.old.limits names.now (steps_in w body.now)) row made frame.old.memory frame.new.memory) }
     ensures limits { frame.new.limits ≡ frame.old.limits }
 {
     let [step] = body else {
