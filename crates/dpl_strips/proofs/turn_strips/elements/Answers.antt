@@ -1,9 +1,9 @@
 -- An element is found where its array hasn't changed, or where it is the one that the turn writes itself.
 -- These are the answers to the goals of `elements`.
-use Rattle.std.proofs.Common.{◌≡◌, ℕ, ℤ, List, pos, map, get_or, Option, Some, None, option_map, sym, ap, ◌∙◌, rules}
+use Rattle.std.proofs.Common.{ℤ, pos, map, get_or, option_map, sym, ap, ◌∙◌, rules}
 use Rattle.std.proofs.lemmas.Option.{slice_get-get_or}
 use Rattle.dpl_array.specs.Elements.{behind}
-use Rattle.dpl_memory.specs.Memory.{held_at, array_at}
+use Rattle.dpl_memory.specs.Memory.{held_at}
 use Rattle.dpl_strips.specs.Strips.{written}
 use Rattle.dpl_strips.proofs.Strips.{element-value}
 use Rattle.dpl_strips.proofs.Targets.{none-free, written_at-own, own-words, own-kept}

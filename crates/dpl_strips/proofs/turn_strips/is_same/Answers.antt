@@ -1,7 +1,6 @@
 -- Rows whose first indices have the same coordinates, and which step the same, are one row.
 -- These are the answers to the goals of `is_same`.
-use mir.Val.{of_z}
-use Rattle.std.proofs.Common.{◌≡◌, ℕ, ℤ, length, w64, sym, ap, ◌∙◌, arith, rules}
+use Rattle.std.proofs.Common.{◌≡◌, ℕ, ℤ, length, sym, ap, ◌∙◌, arith, rules}
 use Rattle.dpl_domain.specs.Ranks.{last_of}
 use Rattle.dpl_array.specs.Elements.{Row}
 use Rattle.dpl_array.proofs.SameLemmas.{words-same}
