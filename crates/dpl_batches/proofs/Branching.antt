@@ -12,7 +12,7 @@ use Rattle.dpl_lowered.specs.Shapes.{nowhere}
 use Rattle.dpl_memory.specs.Memory.{Variable, Memory, in_memory}
 use Rattle.dpl_nodes.specs.Steps.{listed}
 
-then_do-done : (o : Outcome Memory) → then_do o (λ s done. Done s done) ≡ o
+pub then_do-done : (o : Outcome Memory) → then_do o (λ s done. Done s done) ≡ o
 then_do-done (Done s done) = refl
 then_do-done (Stop f done) = refl
 then_do-done (Waits at c op done) = refl

@@ -1,4 +1,8 @@
 -- What serves contracts and proofs alone.
+pub mod Rooms
 pub mod FoldedTurns
 pub mod Branching
-pub mod Rooms
+pub mod Stores
+pub mod StoreTurns
+pub mod Kept
+pub mod Found

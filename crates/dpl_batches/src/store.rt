@@ -1,11 +1,32 @@
-// What the turns of a row leave in variables, kept back until all their statements are found (specs/Stores.antt).
+// What the turns of a row leave in variables, kept back until all their statements are found (specs/Stores.antt). Then each is put for all
+// these turns, one after another.
 
-use dpl_loop::STRIP;
-use dpl_nodes::IntFold;
-use dpl_array::Row;
+ghost use Rattle.std.specs.Prelude.{◌≡◌, ◌≤◌, ◌<◌, ℕ, map, take, length, slice_get, Some, true, false, IfSome, IfOk};
+ghost use Rattle.dpl_frame.specs.Frames.{with_memory};
+ghost use Rattle.dpl_elements.specs.Turns.{HasRoom};
+ghost use Rattle.dpl_strips.specs.Strips.{written, IsFree};
+ghost use Rattle.dpl_batches.specs.Stores.{unmade, by_now, stored_in_turns, each_stored, AreApart, HaveRoom, AreUnmade};
+
+use crate::fold::folded_where;
+use crate::turn::{behind, has_room, is_variable};
+use dpl_frame::{Arrays, Frame};
+use dpl_loop::{Row, STRIP};
+use dpl_nodes::{IntFold, Names};
+use dpl_strips::Target;
+use std::alloc::AllocError;
+
+/// The most variables that the turns of a row write.
+pub(crate) const MOST: usize = 4;
+
+/// A variable that turns write: its slot; and of an array in it at which indices, turn by turn.
+#[derive(Clone, Copy)]
+pub(crate) struct Variable {
+    pub slot: usize,
+    pub at: Row,
+}
 
 /// What turns leave in one variable: in the k-th turn the k-th word is put into the element at the k-th index of a row of the array in a slot;
-/// or it is folded onto the int in the slot, where the k-th word of the mask isn't 0. Once it is made, that is; until then it is left as it is.
+/// or it is folded onto the int in the slot, where the k-th word of the mask isn't 0. So it is once it is made; until then nothing is left.
 #[derive(Clone, Copy)]
 pub(crate) struct Store {
     pub slot: usize,
@@ -14,4 +35,171 @@ pub(crate) struct Store {
     pub is_made: bool,
     pub words: [i64; STRIP],
     pub mask: [i64; STRIP],
+}
+
+impl Store {
+    /// Nothing as yet of what turns write.
+    pub(crate) fn unmade(variable: Variable) -> Store {
+        Store {
+            slot: variable.slot,
+            at: variable.at,
+            fold: None,
+            is_made: false,
+            words: [0; STRIP],
+            mask: [0; STRIP],
+        }
+    }
+
+    /// As statements find it by now.
+    fn target(&self) -> Target<'_>
+        ensures { written result ≡ by_now self.now }
+    {
+        let words = match self.fold {
+            None if self.is_made => Some(&self.words[..]),
+            _ => None,
+        };
+        Target {
+            slot: self.slot,
+            at: self.at,
+            words,
+        }
+    }
+}
+
+// A target that stands for nothing.
+fn none<'w>(row: Row) -> Target<'w> {
+    Target {
+        slot: 0,
+        at: row,
+        words: None,
+    }
+}
+
+/// Each as statements find it by now; behind them, whatever is there.
+pub(crate) fn targets(stores: &[Store], row: Row) -> [Target<'_>; MOST]
+    requires { length stores.now ≤ 4 }
+    ensures { map written (take (length stores.now) result) ≡ map by_now stores.now }
+{
+    let mut targets = [none(row), none(row), none(row), none(row)];
+    for k in 0..stores.len() {
+        targets[k] = stores[k].target();
+    }
+    targets
+}
+
+/// The place of the store of a slot.
+pub(crate) fn place_of(stores: &[Store], slot: usize) -> Option<usize>
+    ensures { IfSome result (λ i. (x : Store) × (slice_get stores.now i ≡ Some x) × (x.slot ≡ slot)) }
+{
+    for k in 0..stores.len() {
+        if stores[k].slot == slot {
+            return Some(k);
+        }
+    }
+    None
+}
+
+// Whether a slot is that of a store.
+fn is_kept(stores: &[Store], slot: usize) -> bool
+    ensures { result ≡ false → IsFree (map unmade stores.now) slot }
+{
+    for k in 0..stores.len() {
+        if stores[k].slot == slot {
+            return true;
+        }
+    }
+    false
+}
+
+/// Whether each store is as yet unmade and has a slot of its own, which no variable of the loop has, and whose elements have room.
+pub(crate) fn are_apart(names: &Names<'_>, stores: &[Store]) -> bool
+    ensures apart { result ≡ true → AreApart names.now stores.now }
+    ensures room { result ≡ true → HaveRoom stores.now }
+    ensures unmade { result ≡ true → AreUnmade stores.now }
+{
+    let mut left = stores.len();
+    while left > 0 {
+        left -= 1;
+        let store = &stores[left];
+        // Nothing is read here: that an index has coordinates, and that a row moves on, are clauses of these calls.
+        let _ = (store.at.first().rank(), store.at.step());
+        if store.is_made
+            || is_variable(names, store.slot)
+            || is_kept(&stores[left + 1..], store.slot)
+            || !has_room(store.at)
+        {
+            return false;
+        }
+    }
+    true
+}
+
+// Folds what a store has for so many turns onto its int.
+fn put_int<A: Arrays>(fold: IntFold, store: &Store, size: usize, frame: &mut Frame<A>)
+    requires cap { size ≤ 64 }
+    requires made { store.now.is_made ≡ true }
+    requires folds { store.now.fold ≡ Some fold }
+    ensures { frame.new ≡ with_memory (stored_in_turns store.now size frame.old.memory) frame.old }
+{
+    let word = folded_where(fold, frame.number(store.slot), &store.mask, &store.words, size);
+    frame.set_number(store.slot, word);
+}
+
+// Puts the words that a store has for so many turns into its elements: as many as lie side by side, and the others one by one.
+fn put_words<A: Arrays>(
+    store: &Store,
+    size: usize,
+    frame: &mut Frame<A>,
+) -> Result<(), AllocError>
+    requires cap { size ≤ 64 }
+    requires room { HasRoom store.now.at 64 }
+    requires made { store.now.is_made ≡ true }
+    requires puts { store.now.fold ≡ None }
+    ensures stored { IfOk result (λ u. frame.new ≡ with_memory (stored_in_turns store.now size frame.old.memory) frame.old) }
+    ensures limits { frame.new.limits ≡ frame.old.limits }
+{
+    let made = frame.put_run(store.slot, store.at, &store.words[..size]);
+    for k in made..size {
+        let _ = frame.put(store.slot, behind(store.at, k), store.words[k])?;
+    }
+    Ok(())
+}
+
+// Puts what a store leaves in so many turns.
+fn put<A: Arrays>(store: &Store, size: usize, frame: &mut Frame<A>) -> Result<(), AllocError>
+    requires cap { size ≤ 64 }
+    requires room { HasRoom store.now.at 64 }
+    ensures stored { IfOk result (λ u. frame.new ≡ with_memory (stored_in_turns store.now size frame.old.memory) frame.old) }
+    ensures limits { frame.new.limits ≡ frame.old.limits }
+{
+    if !store.is_made {
+        return Ok(());
+    }
+    match store.fold {
+        Some(fold) => {
+            put_int(fold, store, size, frame);
+            Ok(())
+        }
+        None => put_words(store, size, frame),
+    }
+}
+
+/// Puts what stores leave in so many turns, one store after another.
+///
+/// # Errors
+/// Out of memory for a copy of an array that isn't the frame's own; then nothing is said of the arrays.
+pub(crate) fn put_all<A: Arrays>(
+    stores: &[Store],
+    size: usize,
+    frame: &mut Frame<A>,
+) -> Result<(), AllocError>
+    requires cap { size ≤ 64 }
+    requires room { HaveRoom stores.now }
+    ensures stored { IfOk result (λ u. frame.new ≡ with_memory (each_stored stores.now size frame.old.memory) frame.old) }
+    ensures limits { frame.new.limits ≡ frame.old.limits }
+{
+    for k in 0..stores.len() {
+        put(&stores[k], size, frame)?;
+    }
+    Ok(())
 }

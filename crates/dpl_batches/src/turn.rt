@@ -1,7 +1,7 @@
 // Turns of a loop that are made at once, along a row of indices: those whose body is one assignment to an element, or folds an int onto
 // one that is no variable of the loop. The right sides are evaluated for several turns, and then put along a row, or folded one after another.
 
-ghost use Rattle.std.specs.Prelude.{◌≡◌, ◌≤◌, true, false, IfOk, IfSome};
+ghost use Rattle.std.specs.Prelude.{◌≡◌, ◌≤◌, true, false, IfSome, IfOk};
 ghost use Rattle.dpl_array.specs.Elements.{behind};
 ghost use Rattle.dpl_language.specs.Tree.{IntKind, BoolKind, Set, One, NoStmts, Then};
 ghost use Rattle.dpl_standing.specs.Standing.{Standing};
@@ -13,7 +13,8 @@ ghost use Rattle.dpl_readings.specs.Readings.{steps_in};
 ghost use Rattle.dpl_strips.specs.Strips.{one_written, GoesFrom};
 ghost use Rattle.dpl_elements.specs.Turns.{HasRoom, IsApart, index_turn};
 
-use crate::bind::bind;
+use crate::batch::make_batch;
+use crate::variables::bind;
 use crate::fold::{fold_of, folded};
 use dpl_domain::Index;
 use dpl_elements::put_row;
@@ -197,11 +198,11 @@ fn fold_row<'t, A: Arrays>(
     made
 }
 
-/// Makes the turns of a row's indices, at most so many, where the body is one assignment to an element, or folds an int onto another one, and
-/// its right sides are found several at once; how many. They are what they are wherever the loop stands.
+/// Makes the turns of a row's indices, at most so many, where their statements are found several turns at once; how many. They are what they are
+/// wherever the loop stands.
 ///
 /// # Errors
-/// Out of memory.
+/// Out of memory for a copy of an array that isn't the frame's own; then nothing is said of the frame.
 pub fn make_row<'t, A: Arrays>(
     names: &Names<'t>,
     body: &[Step<'t>],
@@ -210,21 +211,21 @@ pub fn make_row<'t, A: Arrays>(
     frame: &mut Frame<A>,
 ) -> Result<usize, AllocError>
     ensures most { IfOk result (λ made. made ≤ most) }
-    ensures done { (w : Standing) → IfOk result (λ made.
-        AreDone (index_turn frame.old.limits names.now (steps_in w body.now)) row made frame.old.memory frame.new.memory) }
+    ensures done { IfOk result (λ made. (w : Standing)
+        → AreDone (index_turn frame.old.limits names.now (steps_in w body.now)) row made frame.old.memory frame.new.memory) }
     ensures limits { frame.new.limits ≡ frame.old.limits }
 {
     let [step] = body else {
-        return Ok(0);
+        return make_batch(names, body, row, most, frame);
     };
     match step {
-        Step::SetElement(name, index, op, sign, e) => Ok(assign_row(
-            names, name, index, *op, sign, e, row, most, frame,
-        )),
+        Step::SetElement(name, index, op, sign, e) => {
+            Ok(assign_row(names, name, index, *op, sign, e, row, most, frame))
+        }
         Step::Int(deed, slot, e) => Ok(fold_row(names, deed, *slot, e, row, most, frame)),
         Step::Truth(TruthTarget::Element(name, index), e) => {
             Ok(truth_row(names, name, index, e, row, most, frame))
         }
-        _ => Ok(0),
+        _ => make_batch(names, body, row, most, frame),
     }
 }

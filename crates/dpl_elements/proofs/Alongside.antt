@@ -35,7 +35,7 @@ along-apart c d (i ∷ h ∷ is) some same = along-apart c d (h ∷ is) (omega a
     tail [] = []
     tail (i ∷ is) = is
 
-index-apart : (j k : ℕ) (t : Row) → 0 < length t.first → t.step ≢ pos 0 → j < k → same_index (behind k t) (behind j t) ≡ false
+pub index-apart : (j k : ℕ) (t : Row) → 0 < length t.first → t.step ≢ pos 0 → j < k → same_index (behind k t) (behind j t) ≡ false
 index-apart j k t some moves less =
     is_index-same (behind k t) (behind j t)
     ∙ not-same (behind k t) (behind j t) (λ same. distances-apart t.step j k moves less (along-apart (t.step *ℤ pos k) (t.step *ℤ pos j) t.first some same))
@@ -72,7 +72,7 @@ still t u w (i ∷ is) (v ∷ ws) =
     later true o q same = refl
     later false o q same = same
 
-held-elsewhere : (t u : Index) (w : ℤ) (a : Held) → same_index u t ≡ false → held_at u (held_with t w a) ≡ held_at u a
+pub held-elsewhere : (t u : Index) (w : ℤ) (a : Held) → same_index u t ≡ false → held_at u (held_with t w a) ≡ held_at u a
 held-elsewhere t u w a other = elsewhere t u w a.keys a.words other
 
 held-still : (t u : Index) (w : ℤ) (a : Held) → is_some (held_at u (held_with t w a)) ≡ is_some (held_at u a)

@@ -123,7 +123,7 @@ module _
 
   -- of truth values, which are put as their words are by an operator that has no use for the old value
   module _
-      (e : BoolExpr) (values : TruthsHoldInTurns names (record { slot = x.slot; at = at }) (λ u. value_of limits in_memory (truth_view e) None u) s strip)
+      (e : BoolExpr) (values : TruthsHoldInTurns names (one_written x.slot at) (λ u. value_of limits in_memory (truth_view e) None u) s strip)
       (divides : assign_divides op ≡ false) (replaces : (old new : Value) → assigned op None old new ≡ new) where
     abbrev sets_truth : StmtTree Variable
     sets_truth = element_set (array_leaf BoolKind x) index Set nowhere (truth_view e)

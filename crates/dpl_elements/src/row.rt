@@ -1,7 +1,7 @@
 // Ints that go into the elements of a row, by whichever operator divides none.
 // It is as if each went into its element alone, one after another: none of them has a fault.
 
-ghost use Rattle.std.specs.Prelude.{◌≡◌, ◌≤◌, ◌<◌, ℕ, ℤ, pos, false, List, Some, None, get_or};
+ghost use Rattle.std.specs.Prelude.{◌≡◌, ◌≤◌, ◌<◌, ℕ, ℤ, pos, false, List, Some, None, length, get_or};
 ghost use Rattle.dpl_array.specs.Elements.{behind};
 ghost use Rattle.dpl_language.specs.Values.{Int};
 ghost use Rattle.dpl_language.specs.Arithmetic.{assigned, assign_divides};
@@ -16,8 +16,29 @@ use dpl_loop::{Row, STRIP, Strip};
 use dpl_nodes::{ArrayName, Spot};
 use dpl_tree::Assign;
 
-/// What an operator makes of elements that stand side by side and of ints for them, in the ints' strip; nothing of an operator that divides.
-pub fn changed<A: Arrays>(
+/// What an operator makes of old words and of the ints of a strip, in the strip, as many as there are old words; nothing of an operator that
+/// divides.
+pub fn combine(op: Assign, old: &[i64], strip: &mut Strip)
+    ensures row { strip.new.row ≡ strip.old.row }
+    ensures size { strip.new.size ≤ strip.old.size }
+    ensures old { strip.new.size ≤ length old.now }
+    ensures divides { 0 < strip.new.size → assign_divides op ≡ false }
+    ensures words { (k : ℕ) → k < strip.new.size → k < 64
+        → assigned op None (Int (get_or old.now k (pos 0))) (Int (get_or strip.old.words k (pos 0))) ≡ Int (get_or strip.new.words k (pos 0)) }
+{
+    if divides(op) {
+        strip.size = 0;
+        return;
+    }
+    let size = strip.size.min(old.len()).min(STRIP);
+    for k in 0..size {
+        strip.words[k] = assigned(op, old[k], strip.words[k]);
+    }
+    strip.size = size;
+}
+
+// The same of elements that stand side by side.
+fn changed<A: Arrays>(
     name: &ArrayName<'_>,
     op: Assign,
     at: Row,
@@ -29,19 +50,9 @@ pub fn changed<A: Arrays>(
     ensures words { (k : ℕ) (old : ℤ) → k < strip.new.size → k < 64 → held_at (behind k at) (array_at name.now.slot frame.now.memory) ≡ Some old
         → assigned op None (Int old) (Int (get_or strip.old.words k (pos 0))) ≡ Int (get_or strip.new.words k (pos 0)) }
 {
-    if replaces(op) {
-        return;
+    if !replaces(op) {
+        combine(op, frame.run(name.slot, at), strip);
     }
-    if divides(op) {
-        strip.size = 0;
-        return;
-    }
-    let old = frame.run(name.slot, at);
-    let size = strip.size.min(old.len()).min(STRIP);
-    for k in 0..size {
-        strip.words[k] = assigned(op, old[k], strip.words[k]);
-    }
-    strip.size = size;
 }
 
 /// Puts the ints of a strip into the elements at the indices of a row, at most so many of them, as an operator makes them; how many. The

@@ -1,38 +1,21 @@
--- One word more is what the operator makes of the element and the int.
+-- The elements are the old words, where they are found side by side.
 -- These are the answers to the goals of `changed`.
-use Rattle.std.proofs.Common.{◌≡◌, ◌<◌, pos, None, get_or, length, length-set, sym, ap, ◌∙◌, arith, FitsSigned, w64, rules}
-use Rattle.std.proofs.lemmas.Int.{to_z-of_z}
-use Rattle.std.proofs.lemmas.List.{get_or-set_other}
+use Rattle.std.proofs.Common.{◌≡◌, ◌<◌, pos, None, get_or, length, sym, ap, ◌∙◌, arith, rules}
 use Rattle.std.proofs.lemmas.Option.{same_Some, slice_get-get_or}
 use Rattle.dpl_language.specs.Values.{Int}
 use Rattle.dpl_language.specs.Arithmetic.{assigned}
-use Rattle.dpl_strips.proofs.Strips.{written}
 use Rattle.dpl_elements.proofs.row.changed.Goals as goal
 
-pub loop-k-preserved : goal.loop-k-preserved
-loop-k-preserved g c =
-    let k = c.loop-k.k in
-    let op = c.args.op in
-    let old = c.run-old.result.now in
-    let strip = c.args.strip.now.words in
-    let words = c.loop-k.strip.words in
-    let old_fits : FitsSigned w64 (get_or old k (pos 0)) = search rules in
-    let word_fits : FitsSigned w64 (get_or words k (pos 0)) = search rules in
-    let made_fits : FitsSigned w64 c.assigned.result = search rules in
-    let makes = simp to_z-of_z at c.assigned.ensures in
-    record {
-      size = c.loop-k.invariant.size;
-      long = length-set words k _ ∙ c.loop-k.invariant.long;
-      made = written (λ j w. assigned op None (Int (get_or old j (pos 0))) (Int (get_or strip j (pos 0))) ≡ Int w) words k _ (search rules) c.loop-k.invariant.made
-          (ap (λ n. assigned op None (Int (get_or old k (pos 0))) (Int n)) (sym (c.loop-k.invariant.left k (omega arith))) ∙ sym makes ∙ ap Int (sym (to_z-of_z w64 c.assigned.result made_fits)));
-      left = λ j below. get_or-set_other words k j _ (pos 0) (λ is. omega (arith, below, is)) ∙ c.loop-k.invariant.left j (omega (arith, below));
-    }
-
-pub returns-clause-words : goal.returns-clause-words
-returns-clause-words g c k old below cap at =
-    let run = c.run-old.result.now in
-    let within : k < length run = search rules in
-    let before : k < c.loop-k.k = search rules in
-    let there = c.run-old.ensures k (get_or run k (pos 0)) (slice_get-get_or run k (pos 0) within) in
+pub returns-then-not-replaces-clause-words : goal.returns-then-not-replaces-clause-words
+returns-then-not-replaces-clause-words g c k old below cap at =
+    let run = c.run.result.now in
+    let within : k < length run = omega (arith, below, c.combine.ensures.old) in
+    let there = c.run.ensures k (get_or run k (pos 0)) (slice_get-get_or run k (pos 0) within) in
     let same : old ≡ get_or run k (pos 0) = same_Some old (get_or run k (pos 0)) (sym at ∙ there) in
-    ap (λ n. assigned c.args.op None (Int n) (Int (get_or c.args.strip.now.words k (pos 0)))) same ∙ c.loop-k.invariant.made k before
+    ap (λ n. assigned c.args.op None (Int n) (Int (get_or c.args.strip.now.words k (pos 0)))) same ∙ c.combine.ensures.words k below cap
+
+pub returns-else-not-replaces-clause-words : goal.returns-else-not-replaces-clause-words
+returns-else-not-replaces-clause-words g c k old below cap at = c.replaces.ensures.value (search rules) (Int old) (Int (get_or c.args.strip.now.words k (pos 0)))
+
+pub returns-else-not-replaces-clause-divides : goal.returns-else-not-replaces-clause-divides
+returns-else-not-replaces-clause-divides g c some = c.replaces.ensures.divides (search rules)

@@ -7,7 +7,7 @@ use Rattle.dpl_memory.specs.Memory.{PlainKind, with_value_in}
 use Rattle.dpl_frame.specs.Frames.{Framed, with_memory}
 use Rattle.dpl_elements.specs.Turns.{each_bound, bound_at}
 use Rattle.dpl_elements.proofs.Binding.{declare-names}
-use Rattle.dpl_batches.proofs.bind.bind.Goals as goal
+use Rattle.dpl_batches.proofs.variables.bind.Goals as goal
 
 pub returns-in-Each : goal.returns-in-Each
 returns-in-Each g c =

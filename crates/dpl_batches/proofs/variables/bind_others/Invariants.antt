@@ -1,7 +1,7 @@
 use Rattle.std.proofs.Common.{◌≡◌, ◌+◌, drop}
 use Rattle.dpl_frame.specs.Frames.{with_memory}
 use Rattle.dpl_elements.specs.Turns.{each_bound}
-use Rattle.dpl_batches.proofs.bind.bind_others.Given as goal
+use Rattle.dpl_batches.proofs.variables.bind_others.Given as goal
 
 -- the slots that are left give what all give at the start
 abbrev pub invariant-loop-k : goal.invariant-loop-k
