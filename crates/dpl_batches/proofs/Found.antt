@@ -15,8 +15,8 @@ use Rattle.dpl_nodes.specs.Steps.{listed}
 use Rattle.dpl_loop.specs.declared.strip.Strip.{Strip}
 use Rattle.dpl_strips.specs.Strips.{Written, IsFree, IsInOwnTurn}
 use Rattle.dpl_strips.specs.Truths.{TruthsHoldInTurns}
-use Rattle.dpl_elements.specs.Turns.{IsApart}
-use Rattle.dpl_batches.specs.Stores.{unmade, AreApart, AreFound, HaveElements, Begins, goes_in, done_where, else_body, by_now, all_stored}
+use Rattle.dpl_elements.specs.Turns.{IsApart, HasRoom}
+use Rattle.dpl_batches.specs.Stores.{unmade, AreApart, HaveRoom, AreFound, HaveElements, Begins, goes_in, done_where, else_body, by_now, all_stored}
 use Rattle.dpl_batches.specs.declared.store.Store.{Store}
 use Rattle.dpl_batches.proofs.StoreTurns.{own-now}
 use Rattle.dpl_batches.proofs.Branching.{then_do-done, scoped-same, if-then, if-else}
@@ -46,6 +46,17 @@ apart-alike names (x ∷ xs) (y ∷ ys) alike apart =
       subst (λ (at : Row). at.step ≢ pos 0) (sym rows) apart.3,
       apart-alike names xs ys others apart.4,
     )
+
+pub room-alike : (xs ys : List Store) → map unmade ys ≡ map unmade xs → HaveRoom xs → HaveRoom ys
+unfolding first_of rest_of
+room-alike [] [] alike room = tt
+room-alike [] (y ∷ ys) alike room = cc
+room-alike (x ∷ xs) [] alike room = cc
+room-alike (x ∷ xs) (y ∷ ys) alike room =
+    let same : unmade y ≡ unmade x = ap (first_of (unmade y)) alike in
+    let others : map unmade ys ≡ map unmade xs = ap rest_of alike in
+    let rows : x.at ≡ y.at = ap (λ (w : Written). w.at) (sym same) in
+    (subst (λ (at : Row). HasRoom at 64) rows room.0, room-alike xs ys others room.1)
 
 pub as-many : (xs ys : List Store) → map unmade ys ≡ map unmade xs → length ys ≡ length xs
 unfolding rest_of

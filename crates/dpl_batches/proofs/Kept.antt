@@ -160,7 +160,7 @@ module _ (limits : Limits) (names : Names) (row : Row) (s : Memory) (mask : Opti
     }
 
     -- of an int, by whichever operator divides none
-    module _ (name : ArrayName) (index : IndexExpr) (slot_is : x.slot ≡ name.slot) (goes : GoesFrom limits names (map by_now xs) row s index x.at) (cap : size ≤ 64) where
+    module _ (name : ArrayName) (index : IndexExpr) (slot_is : x.slot ≡ name.slot) (goes : GoesFrom limits names (map by_now xs) row s index x.at) where
       pub found-int : (op : Assign) (sign : Place) (e : IntExpr) (source : Strip) (begins : source.row ≡ row) (enough : size ≤ source.size)
           → HoldsInTurns names (map by_now xs) (λ u. value_of limits in_memory (int_view e) None u) s source
           → (0 < size → assign_divides op ≡ false) → (words : List ℤ)

@@ -152,7 +152,10 @@ fn truths<'t, A: Arrays>(
     ensures found { (w : Standing) → AreFound frame.now.limits names.now row frame.now.memory (Then (step_in w step.now) NoStmts)
         (option_map (λ ms. ms.now) mask.entry) result stores.old stores.new }
 {
-    let Step::Truth(TruthTarget::Element(name, index), e) = step else {
+    let Step::Truth(target, e) = step else {
+        return 0;
+    };
+    let TruthTarget::Element(name, index) = target else {
         return 0;
     };
     let Some(i) = element_place(name.slot, index, names, row, frame, stores) else {

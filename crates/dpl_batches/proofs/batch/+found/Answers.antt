@@ -13,7 +13,7 @@ use Rattle.dpl_nodes.specs.Typed.{truth_view}
 use Rattle.dpl_readings.specs.Readings.{step_in, else_in, steps_in}
 use Rattle.dpl_readings.proofs.Views.{block_in, if_in}
 use Rattle.dpl_strips.specs.Truths.{TruthsHoldInTurns}
-use Rattle.dpl_batches.specs.Stores.{AreFound, all_stored, goes_in, done_where}
+use Rattle.dpl_batches.specs.Stores.{AreFound, else_body}
 use Rattle.dpl_batches.proofs.Found.{apart-alike, as-many, block-found, branches-found, LeftToFind, next-left, none-left}
 use Rattle.dpl_batches.proofs.batch.+found.Goals as goal
 
@@ -49,3 +49,54 @@ statement-returns-in-Block-clause-found g t c w =
     subst (λ t. AreFound f.limits names row f.memory (Then (step_in w t) NoStmts) mask size xs ys) (sym c.in-Block.is)
     (subst (λ t. AreFound f.limits names row f.memory (Then t NoStmts) mask size xs ys) (sym (block_in w c.in-Block.body))
     (block-found f.limits names row f.memory mask (steps_in w c.in-Block.body.now) size xs ys (c.statements.ensures.found w)))
+
+pub alternative-returns-in-Do-clause-found : goal.alternative-returns-in-Do-clause-found
+alternative-returns-in-Do-clause-found g t c w =
+    let f = c.args.frame.now in
+    subst (λ o. AreFound f.limits c.args.names.now c.args.row f.memory (else_body (else_in w o)) (option_map (λ ms. ms.now) c.args.mask) c.statement.result c.args.stores.now c.statement.new.stores)
+    (sym c.in-Do.is) (c.statement.ensures.found w)
+
+pub branches-alternative-requires : goal.branches-alternative-requires
+branches-alternative-requires g t c κs within = (
+  search rules,
+  search rules,
+  omega (arith, as-many c.args.stores.now c.statements-left.new.stores (c.statements-left.ensures.found Outside).alike, c.requires.few),
+  apart-alike c.args.names.now c.args.stores.now c.statements-left.new.stores (c.statements-left.ensures.found Outside).alike c.requires.apart,
+)
+
+pub statements-statement-left-requires : goal.statements-statement-left-requires
+statements-statement-left-requires g t c κs within = (
+  search rules,
+  search rules,
+  omega (arith, as-many c.args.stores.now c.loop-k.stores c.loop-k.invariant.alike, c.requires.few),
+  apart-alike c.args.names.now c.args.stores.now c.loop-k.stores c.loop-k.invariant.alike c.requires.apart,
+)
+
+pub statements-loop-k-preserved : goal.statements-loop-k-preserved
+statements-loop-k-preserved g t c =
+    let f = c.args.frame.now in
+    let names = c.args.names.now in
+    let row = c.args.row in
+    let mask = option_map (λ ms. ms.now) c.args.mask in
+    let body = c.args.body.now in
+    let xs = c.args.stores.now in
+    let ys = c.loop-k.stores in
+    let zs = c.statement-left.new.stores in
+    let left = c.loop-k.left in
+    let size = c.statement-left.result in
+    let k = c.loop-k.k in
+    let step = c.index-body-k.result in
+    let within : k < length body = search rules in
+    let at : slice_get body k ≡ Some step = slice_get-get_or body k step within ∙ ap Some (sym c.index-body-k.is) in
+    let fewer : size ≤ left = c.statement-left.ensures.most in
+    let found = c.statement-left.ensures.found in
+    let before = c.loop-k.invariant in
+    record {
+      few = omega (arith, fewer, before.few);
+      alike = (found Outside).alike ∙ before.alike;
+      there = λ j below cap there. (found Outside).there j below cap (before.there j (omega (arith, below, fewer)) cap there);
+      does = λ w.
+          let whole = steps_in w body in
+          let next = subst (λ ts. LeftToFind f.limits names row f.memory mask whole xs (steps_in w ts) left ys) (drop-slice_get body k step at) (before.does w) in
+          next-left f.limits names row f.memory mask whole xs (step_in w step) (steps_in w (drop (k + 1) body)) ys zs left size fewer before.alike before.there next (found w);
+    }

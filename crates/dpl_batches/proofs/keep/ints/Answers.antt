@@ -39,7 +39,7 @@ returns-clause-found g c w =
     subst (λ t. AreFound f.limits names row f.memory (Then (step_in w t) NoStmts) mask size xs (slice_set xs i y)) (sym c.in-SetElement.is)
     (found-int f.limits names row f.memory mask xs c.requires.apart i x y place.1 place.3 (ap (λ (x : Store). x.slot) is) (ap (λ (x : Store). x.at) is) (ap (λ (x : Store). x.is_made) is) (ap (λ (x : Store). x.fold) is ∙ place.3)
     size own (λ k below. owns k (omega (arith, below, few, c.blend.ensures.own)))
-    c.in-SetElement.name.now c.in-SetElement.index.now place.2 place.4 (omega (arith, few))
+    c.in-SetElement.name.now c.in-SetElement.index.now place.2 place.4
     c.in-SetElement.op c.in-SetElement.field-3.now c.in-SetElement.e.now source (c.turn_ints.ensures.row ∙ c.none-strip.ensures.row)
     (omega (arith, few, c.blend.ensures.size, c.combine.ensures.size)) values (λ some. c.combine.ensures.divides (omega (arith, some, few, c.blend.ensures.size))) combined.words
     (λ k below cap. c.combine.ensures.words k (omega (arith, below, few, c.blend.ensures.size)) cap)

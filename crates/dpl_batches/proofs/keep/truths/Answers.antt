@@ -7,6 +7,7 @@ use Rattle.dpl_language.specs.Expressions.{value_of}
 use Rattle.dpl_memory.specs.Memory.{in_memory}
 use Rattle.dpl_nodes.specs.declared.step.Step.{Step}
 use Rattle.dpl_nodes.specs.Typed.{int_view, truth_view}
+use Rattle.dpl_nodes.specs.Steps.{truth_stated}
 use Rattle.dpl_readings.specs.Readings.{step_in}
 use Rattle.dpl_strips.specs.Strips.{Written, HoldsInTurns, own_word}
 use Rattle.dpl_strips.specs.Truths.{TruthsHoldInTurns}
@@ -34,12 +35,13 @@ returns-clause-found g c w =
     let y = c.put.new.self in
     let is : y ≡ record x { is_made = true; words = strip.words } = c.put.ensures ∙ ap (λ (x : Store). record x { is_made = true; words = strip.words }) (get_or_from_slice_get xs i x _ place.1) in
     let owns = subst (λ (x : Store). (k : ℕ) → k < length own → own_word (by_now x) k f.memory ≡ Some (get_or own k (pos 0))) here c.own_words.ensures in
-    let e = c.in-Truth-Element-default.e.now in
+    let e = c.in-Truth.e.now in
     let values = subst (λ ws. TruthsHoldInTurns names ws (λ u. value_of f.limits in_memory (truth_view e) None u) f.memory source) c.targets-written.ensures c.turn_truths.ensures.values in
-    subst (λ t. AreFound f.limits names row f.memory (Then (step_in w t) NoStmts) mask size xs (slice_set xs i y)) (sym c.in-Truth-Element-default.is)
+    subst (λ t. AreFound f.limits names row f.memory (Then (step_in w t) NoStmts) mask size xs (slice_set xs i y)) (sym c.in-Truth.is)
+    (subst (λ target. AreFound f.limits names row f.memory (Then (truth_stated target (truth_view e)) NoStmts) mask size xs (slice_set xs i y)) (sym c.in-Element.is)
     (found-truth f.limits names row f.memory mask xs c.requires.apart i x y place.1 place.3 (ap (λ (x : Store). x.slot) is) (ap (λ (x : Store). x.at) is) (ap (λ (x : Store). x.is_made) is) (ap (λ (x : Store). x.fold) is ∙ place.3)
     size own (λ k below. owns k (omega (arith, below, few, c.blend.ensures.own)))
-    c.in-Truth-Element-default.name.now c.in-Truth-Element-default.index.now place.2 place.4 (omega (arith, few))
+    c.in-Element.name.now c.in-Element.index.now place.2 place.4
     e source (c.turn_truths.ensures.row ∙ c.none-strip.ensures.row)
     (omega (arith, few, c.blend.ensures.size)) values
-    (λ k below cap. ap (λ (x : Store). get_or x.words k (pos 0)) is ∙ c.blend.ensures.words k (omega (arith, below, few)) cap))
+    (λ k below cap. ap (λ (x : Store). get_or x.words k (pos 0)) is ∙ c.blend.ensures.words k (omega (arith, below, few)) cap)))
