@@ -154,6 +154,8 @@ fn statements<'t, A: Arrays>(
     requires few { length stores.old ≤ 4 }
     requires apart { AreApart names.now stores.old }
     ensures most { result ≤ size }
+    ensures few { length stores.new ≤ 4 }
+    ensures apart { AreApart names.now stores.new }
     ensures found { (w : Standing) → AreFound frame.now.limits names.now row frame.now.memory (steps_in w body.now)
         (option_map (λ ms. ms.now) mask.entry) result stores.old stores.new }
 {
@@ -178,6 +180,8 @@ fn statement<'t, A: Arrays>(
     requires few { length stores.old ≤ 4 }
     requires apart { AreApart names.now stores.old }
     ensures most { result ≤ size }
+    ensures few { length stores.new ≤ 4 }
+    ensures apart { AreApart names.now stores.new }
     ensures found { (w : Standing) → AreFound frame.now.limits names.now row frame.now.memory (Then (step_in w step.now) NoStmts)
         (option_map (λ ms. ms.now) mask.entry) result stores.old stores.new }
 {
@@ -204,6 +208,8 @@ fn branches<'t, A: Arrays>(
     requires few { length stores.old ≤ 4 }
     requires apart { AreApart names.now stores.old }
     ensures most { result ≤ size }
+    ensures few { length stores.new ≤ 4 }
+    ensures apart { AreApart names.now stores.new }
     ensures found { (w : Standing) → AreFound frame.now.limits names.now row frame.now.memory (Then (step_in w step.now) NoStmts)
         (option_map (λ ms. ms.now) mask.entry) result stores.old stores.new }
 {
@@ -239,6 +245,8 @@ fn alternative<'t, A: Arrays>(
     requires few { length stores.old ≤ 4 }
     requires apart { AreApart names.now stores.old }
     ensures most { result ≤ size }
+    ensures few { length stores.new ≤ 4 }
+    ensures apart { AreApart names.now stores.new }
     ensures found { (w : Standing) → AreFound frame.now.limits names.now row frame.now.memory (else_body (else_in w otherwise.now))
         (option_map (λ ms. ms.now) mask.entry) result stores.old stores.new }
 {

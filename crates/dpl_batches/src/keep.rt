@@ -117,6 +117,8 @@ fn ints<'t, A: Arrays>(
     requires few { length stores.old ≤ 4 }
     requires apart { AreApart names.now stores.old }
     ensures most { result ≤ size }
+    ensures few { length stores.new ≤ 4 }
+    ensures apart { AreApart names.now stores.new }
     ensures found { (w : Standing) → AreFound frame.now.limits names.now row frame.now.memory (Then (step_in w step.now) NoStmts)
         (option_map (λ ms. ms.now) mask.entry) result stores.old stores.new }
 {
@@ -149,6 +151,8 @@ fn truths<'t, A: Arrays>(
     requires few { length stores.old ≤ 4 }
     requires apart { AreApart names.now stores.old }
     ensures most { result ≤ size }
+    ensures few { length stores.new ≤ 4 }
+    ensures apart { AreApart names.now stores.new }
     ensures found { (w : Standing) → AreFound frame.now.limits names.now row frame.now.memory (Then (step_in w step.now) NoStmts)
         (option_map (λ ms. ms.now) mask.entry) result stores.old stores.new }
 {
@@ -182,6 +186,8 @@ fn folds<'t, A: Arrays>(
     requires few { length stores.old ≤ 4 }
     requires apart { AreApart names.now stores.old }
     ensures most { result ≤ size }
+    ensures few { length stores.new ≤ 4 }
+    ensures apart { AreApart names.now stores.new }
     ensures found { (w : Standing) → AreFound frame.now.limits names.now row frame.now.memory (Then (step_in w step.now) NoStmts)
         (option_map (λ ms. ms.now) mask.entry) result stores.old stores.new }
 {
@@ -217,6 +223,8 @@ pub(crate) fn plain<'t, A: Arrays>(
     requires few { length stores.old ≤ 4 }
     requires apart { AreApart names.now stores.old }
     ensures most { result ≤ size }
+    ensures few { length stores.new ≤ 4 }
+    ensures apart { AreApart names.now stores.new }
     ensures found { (w : Standing) → AreFound frame.now.limits names.now row frame.now.memory (Then (step_in w step.now) NoStmts)
         (option_map (λ ms. ms.now) mask.entry) result stores.old stores.new }
 {

@@ -14,7 +14,7 @@ use Rattle.dpl_readings.specs.Readings.{step_in, else_in, steps_in}
 use Rattle.dpl_readings.proofs.Views.{block_in, if_in}
 use Rattle.dpl_strips.specs.Truths.{TruthsHoldInTurns}
 use Rattle.dpl_batches.specs.Stores.{AreFound, else_body}
-use Rattle.dpl_batches.proofs.Found.{apart-alike, as-many, block-found, branches-found, LeftToFind, next-left, none-left}
+use Rattle.dpl_batches.proofs.Found.{block-found, branches-found, LeftToFind, next-left, none-left}
 use Rattle.dpl_batches.proofs.batch.+found.Goals as goal
 
 pub branches-returns-clause-found : goal.branches-returns-clause-found
@@ -56,22 +56,6 @@ alternative-returns-in-Do-clause-found g t c w =
     subst (λ o. AreFound f.limits c.args.names.now c.args.row f.memory (else_body (else_in w o)) (option_map (λ ms. ms.now) c.args.mask) c.statement.result c.args.stores.now c.statement.new.stores)
     (sym c.in-Do.is) (c.statement.ensures.found w)
 
-pub branches-alternative-requires : goal.branches-alternative-requires
-branches-alternative-requires g t c κs within = (
-  search rules,
-  search rules,
-  omega (arith, as-many c.args.stores.now c.statements-left.new.stores (c.statements-left.ensures.found Outside).alike, c.requires.few),
-  apart-alike c.args.names.now c.args.stores.now c.statements-left.new.stores (c.statements-left.ensures.found Outside).alike c.requires.apart,
-)
-
-pub statements-statement-left-requires : goal.statements-statement-left-requires
-statements-statement-left-requires g t c κs within = (
-  search rules,
-  search rules,
-  omega (arith, as-many c.args.stores.now c.loop-k.stores c.loop-k.invariant.alike, c.requires.few),
-  apart-alike c.args.names.now c.args.stores.now c.loop-k.stores c.loop-k.invariant.alike c.requires.apart,
-)
-
 pub statements-loop-k-preserved : goal.statements-loop-k-preserved
 statements-loop-k-preserved g t c =
     let f = c.args.frame.now in
@@ -92,7 +76,9 @@ statements-loop-k-preserved g t c =
     let found = c.statement-left.ensures.found in
     let before = c.loop-k.invariant in
     record {
-      few = omega (arith, fewer, before.few);
+      fewer = omega (arith, fewer, before.fewer);
+      few = c.statement-left.ensures.few;
+      apart = c.statement-left.ensures.apart;
       alike = (found Outside).alike ∙ before.alike;
       there = λ j below cap there. (found Outside).there j below cap (before.there j (omega (arith, below, fewer)) cap there);
       does = λ w.

@@ -1,16 +1,18 @@
-use Rattle.std.proofs.Common.{◌≡◌, ◌≤◌, ◌<◌, ℕ, map, drop, option_map}
+use Rattle.std.proofs.Common.{◌≡◌, ◌≤◌, ◌<◌, ℕ, map, drop, length, option_map}
 use Rattle.dpl_language.specs.Outcome.{Deeds}
 use Rattle.dpl_memory.specs.Memory.{Memory}
 use Rattle.dpl_standing.specs.Standing.{Standing}
 use Rattle.dpl_readings.specs.Readings.{steps_in}
-use Rattle.dpl_batches.specs.Stores.{unmade, HaveElements}
+use Rattle.dpl_batches.specs.Stores.{unmade, AreApart, HaveElements}
 use Rattle.dpl_batches.proofs.Found.{LeftToFind}
 use Rattle.dpl_batches.proofs.batch.+found.Given as goal
 
 -- the statements that are left come, from here, to what all come to at the start
 abbrev pub invariant-statements-loop-k : goal.invariant-statements-loop-k
 invariant-statements-loop-k g l = record {
-  few : l.left ≤ l.size;
+  fewer : l.left ≤ l.size;
+  few : length l.stores ≤ 4;
+  apart : AreApart l.names l.stores;
   alike : map unmade l.stores ≡ map unmade l.initial.stores;
   there : (k : ℕ) → k < l.left → k < 64 → HaveElements l.initial.stores k l.frame.memory → HaveElements l.stores k l.frame.memory;
   does : (w : Standing) → LeftToFind l.frame.limits l.names l.row l.frame.memory (option_map (λ ms. ms.now) l.mask) (steps_in w l.body) l.initial.stores (steps_in w (drop l.k l.body)) l.left l.stores;

@@ -10,7 +10,7 @@ use Rattle.dpl_loop.specs.Runs.{AreDone}
 use Rattle.dpl_elements.specs.Turns.{bound_at, index_turn}
 use Rattle.dpl_elements.proofs.RowTurns.{none-done}
 use Rattle.dpl_batches.proofs.StoreTurns.{turns-done}
-use Rattle.dpl_batches.proofs.Found.{apart-alike, room-alike}
+use Rattle.dpl_batches.proofs.Found.{room-alike}
 use Rattle.dpl_batches.proofs.batch.made.Goals as goal
 
 pub returns-then-not-has_room-clause-done : goal.returns-then-not-has_room-clause-done
@@ -32,7 +32,6 @@ returns-clause-done g c w =
     let ys = c.statements-size.new.stores in
     let size = c.statements-size.result in
     let found = c.statements-size.ensures.found w in
-    let apart = apart-alike names xs ys found.alike (c.are_apart.ensures.apart (search rules)) in
     let last : ℕ = size - 1 in
     let some : size ≡ suc last = omega (arith, c.if-size-eq0.false) in
     let cap : size ≤ 64 = omega (arith, c.statements-size.ensures.most, c.min.ensures) in
@@ -42,4 +41,4 @@ returns-clause-done g c w =
     ∙ ap (λ t. bound_at names t c.put_all.new.frame.memory) c.behind.ensures
     ∙ ap (λ (f : Framed). bound_at names (behind last row) f.memory) c.in_ok-put_all.ensures.stored in
     subst (λ (m : Memory). AreDone (index_turn f.limits names body) row size f.memory m) (sym memory)
-    (turns-done f.limits names body row xs ys size size last f.memory apart (c.are_apart.ensures.unmade (search rules)) found (omega arith) cap some)
+    (turns-done f.limits names body row xs ys size size last f.memory c.statements-size.ensures.apart (c.are_apart.ensures.unmade (search rules)) found (omega arith) cap some)

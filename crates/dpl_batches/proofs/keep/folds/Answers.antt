@@ -13,6 +13,8 @@ use Rattle.dpl_batches.specs.Stores.{goes_in, AreFound}
 use Rattle.dpl_batches.specs.declared.store.Store.{Store}
 use Rattle.dpl_words.specs.Words.{intent_at}
 use Rattle.dpl_batches.specs.Folded.{Folds}
+use Rattle.dpl_standing.specs.Standing.{Outside}
+use Rattle.dpl_batches.proofs.Found.{apart-alike, as-many}
 use Rattle.dpl_batches.proofs.Kept.{found-fold}
 use Rattle.dpl_batches.proofs.keep.folds.Goals as goal
 
@@ -42,3 +44,10 @@ returns-clause-found g c w =
     (found-fold f.limits names row f.memory mask xs c.requires.apart i x y place.1 unmade (ap (λ (x : Store). x.slot) is) (ap (λ (x : Store). x.at) is) (ap (λ (x : Store). x.is_made) is) fold (ap (λ (x : Store). x.fold) is)
     size c.in-Int.deed c.in-Int.slot place.2 (search rules) folds e source (c.turn_ints.ensures.row ∙ c.none-strip.ensures.row) few (ap (λ (x : Store). x.words) is) values
     (λ k cap. ap (λ (x : Store). goes_in (Some x.mask) k) is ∙ c.mask_words.ensures k cap))
+
+pub returns-clause-few : goal.returns-clause-few
+returns-clause-few g c = omega (arith, as-many c.args.stores.now (slice_set c.args.stores.now c.in-Some-place_of.i c.fold.new.self) (returns-clause-found g c Outside).alike, c.requires.few)
+
+pub returns-clause-apart : goal.returns-clause-apart
+returns-clause-apart g c =
+    apart-alike c.args.names.now c.args.stores.now (slice_set c.args.stores.now c.in-Some-place_of.i c.fold.new.self) (returns-clause-found g c Outside).alike c.requires.apart

@@ -12,6 +12,8 @@ use Rattle.dpl_strips.specs.Strips.{Written, HoldsInTurns, own_word}
 use Rattle.dpl_strips.specs.Truths.{TruthsHoldInTurns}
 use Rattle.dpl_batches.specs.Stores.{by_now, AreFound}
 use Rattle.dpl_batches.specs.declared.store.Store.{Store}
+use Rattle.dpl_standing.specs.Standing.{Outside}
+use Rattle.dpl_batches.proofs.Found.{apart-alike, as-many}
 use Rattle.dpl_batches.proofs.Kept.{found-int}
 use Rattle.dpl_batches.proofs.keep.ints.Goals as goal
 
@@ -44,3 +46,10 @@ returns-clause-found g c w =
     (omega (arith, few, c.blend.ensures.size, c.combine.ensures.size)) values (λ some. c.combine.ensures.divides (omega (arith, some, few, c.blend.ensures.size))) combined.words
     (λ k below cap. c.combine.ensures.words k (omega (arith, below, few, c.blend.ensures.size)) cap)
     (λ k below cap. ap (λ (x : Store). get_or x.words k (pos 0)) is ∙ c.blend.ensures.words k (omega (arith, below, few)) cap))
+
+pub returns-clause-few : goal.returns-clause-few
+returns-clause-few g c = omega (arith, as-many c.args.stores.now (slice_set c.args.stores.now c.in-Some.i c.put.new.self) (returns-clause-found g c Outside).alike, c.requires.few)
+
+pub returns-clause-apart : goal.returns-clause-apart
+returns-clause-apart g c =
+    apart-alike c.args.names.now c.args.stores.now (slice_set c.args.stores.now c.in-Some.i c.put.new.self) (returns-clause-found g c Outside).alike c.requires.apart

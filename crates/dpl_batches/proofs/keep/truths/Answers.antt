@@ -13,6 +13,8 @@ use Rattle.dpl_strips.specs.Strips.{Written, HoldsInTurns, own_word}
 use Rattle.dpl_strips.specs.Truths.{TruthsHoldInTurns}
 use Rattle.dpl_batches.specs.Stores.{by_now, AreFound}
 use Rattle.dpl_batches.specs.declared.store.Store.{Store}
+use Rattle.dpl_standing.specs.Standing.{Outside}
+use Rattle.dpl_batches.proofs.Found.{apart-alike, as-many}
 use Rattle.dpl_batches.proofs.Kept.{found-truth}
 use Rattle.dpl_batches.proofs.keep.truths.Goals as goal
 
@@ -45,3 +47,10 @@ returns-clause-found g c w =
     e source (c.turn_truths.ensures.row ∙ c.none-strip.ensures.row)
     (omega (arith, few, c.blend.ensures.size)) values
     (λ k below cap. ap (λ (x : Store). get_or x.words k (pos 0)) is ∙ c.blend.ensures.words k (omega (arith, below, few)) cap)))
+
+pub returns-clause-few : goal.returns-clause-few
+returns-clause-few g c = omega (arith, as-many c.args.stores.now (slice_set c.args.stores.now c.in-Some.i c.put.new.self) (returns-clause-found g c Outside).alike, c.requires.few)
+
+pub returns-clause-apart : goal.returns-clause-apart
+returns-clause-apart g c =
+    apart-alike c.args.names.now c.args.stores.now (slice_set c.args.stores.now c.in-Some.i c.put.new.self) (returns-clause-found g c Outside).alike c.requires.apart
