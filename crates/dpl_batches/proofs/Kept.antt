@@ -31,7 +31,7 @@ use Rattle.dpl_nodes.proofs.Unread.{cell_read-int, cell_read-truth}
 use Rattle.dpl_loop.specs.declared.strip.Strip.{Strip}
 use Rattle.dpl_strips.specs.Strips.{IsInOwnTurn, OwnWords, HoldsInTurns, GoesFrom, own_word}
 use Rattle.dpl_strips.specs.Truths.{TruthsHoldInTurns}
-use Rattle.dpl_elements.specs.Changes.{signed, int_changed_by, int_put, ends_as}
+use Rattle.dpl_elements.specs.Changes.{int_changed_by, int_put, ends_as}
 use Rattle.dpl_elements.proofs.Changing.{exec-int}
 use Rattle.dpl_elements.proofs.Elements.{exec-element, change-put}
 use Rattle.dpl_elements.proofs.PutRows.{change-there}

@@ -1,5 +1,5 @@
 -- Room for the last coordinates of a row's indices, and where they lie.
-use Rattle.std.proofs.Common.{◌≡◌, ◌≤◌, ℕ, zero, suc, ℤ, pos, ◌+ℤ◌, ◌*ℤ◌, List, length, get_or, FitsSigned, w64, to_z, of_z, refl, sym, subst, ap, ◌∙◌, arith}
+use Rattle.std.proofs.Common.{◌≡◌, ◌≤◌, ℕ, zero, suc, ℤ, pos, ◌+ℤ◌, ◌*ℤ◌, length, get_or, FitsSigned, w64, to_z, of_z, refl, sym, subst, ap, ◌∙◌, arith}
 use Rattle.std.proofs.lemmas.Int.{to_z-of_z, to_z_pos}
 use Rattle.std.proofs.Math.IntN.{+ℤ_idl}
 use Rattle.dpl_domain.specs.Ranks.{last_of}

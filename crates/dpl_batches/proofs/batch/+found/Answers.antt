@@ -1,12 +1,10 @@
 -- Statements by their forms: each comes to what is kept back after it.
 -- These are the answers to the goals of the functions that find statements.
-use Rattle.std.proofs.Common.{◌≡◌, ◌<◌, ◌≤◌, ◌+◌, ℕ, pos, Some, None, map, drop, take, length, get_or, slice_get, option_map, refl, sym, subst, ap, ◌∙◌, arith, rules}
-use Rattle.std.proofs.lemmas.List.{drop_all}
+use Rattle.std.proofs.Common.{◌≡◌, ◌<◌, ◌≤◌, ◌+◌, Some, None, drop, length, slice_get, option_map, sym, subst, ap, ◌∙◌, arith, rules}
 use Rattle.std.proofs.lemmas.Option.{slice_get-get_or}
 use Rattle.dpl_range.proofs.Lists.{drop-slice_get}
 use Rattle.dpl_language.specs.Tree.{NoStmts, Then}
 use Rattle.dpl_language.specs.Expressions.{value_of}
-use Rattle.dpl_language.specs.Statements.{exec_all}
 use Rattle.dpl_memory.specs.Memory.{in_memory}
 use Rattle.dpl_standing.specs.Standing.{Outside}
 use Rattle.dpl_nodes.specs.Typed.{truth_view}
@@ -14,7 +12,7 @@ use Rattle.dpl_readings.specs.Readings.{step_in, else_in, steps_in}
 use Rattle.dpl_readings.proofs.Views.{block_in, if_in}
 use Rattle.dpl_strips.specs.Truths.{TruthsHoldInTurns}
 use Rattle.dpl_batches.specs.Stores.{AreFound, else_body}
-use Rattle.dpl_batches.proofs.Found.{block-found, branches-found, LeftToFind, next-left, none-left}
+use Rattle.dpl_batches.proofs.Found.{block-found, branches-found, LeftToFind, next-left}
 use Rattle.dpl_batches.proofs.batch.+found.Goals as goal
 
 pub branches-returns-clause-found : goal.branches-returns-clause-found

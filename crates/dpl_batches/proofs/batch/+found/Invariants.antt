@@ -1,6 +1,4 @@
 use Rattle.std.proofs.Common.{◌≡◌, ◌≤◌, ◌<◌, ℕ, map, drop, length, option_map}
-use Rattle.dpl_language.specs.Outcome.{Deeds}
-use Rattle.dpl_memory.specs.Memory.{Memory}
 use Rattle.dpl_standing.specs.Standing.{Standing}
 use Rattle.dpl_readings.specs.Readings.{steps_in}
 use Rattle.dpl_batches.specs.Stores.{unmade, AreApart, HaveElements}

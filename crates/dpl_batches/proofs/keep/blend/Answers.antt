@@ -1,11 +1,10 @@
 -- One word more is the own one, or is left.
 -- These are the answers to the goals of `blend`.
-use Rattle.std.proofs.Common.{◌≡◌, ◌<◌, pos, if◌then◌else◌, get_or, length, length-set, ap, ◌∙◌, arith, FitsSigned, w64, rules}
+use Rattle.std.proofs.Common.{◌≡◌, pos, if◌then◌else◌, get_or, length-set, ap, ◌∙◌, arith, FitsSigned, w64, rules}
 use Rattle.std.specs.Ordering.{int_eq}
 use Rattle.std.proofs.lemmas.Int.{to_z-of_z}
 use Rattle.std.proofs.lemmas.List.{get_or-set_other}
 use Rattle.dpl_strips.proofs.Strips.{written}
-use Rattle.dpl_batches.proofs.Found.{blended-goes}
 use Rattle.dpl_batches.proofs.keep.blend.Goals as goal
 
 pub loop-k-preserved : goal.loop-k-preserved

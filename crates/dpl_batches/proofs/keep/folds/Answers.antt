@@ -1,17 +1,15 @@
 -- The ints that are kept back are those that the statement folds, where the mask lets it.
 -- These are the answers to the goals of `folds`.
-use Rattle.std.proofs.Common.{◌≡◌, ◌<◌, ◌≤◌, ℕ, pos, true, None, Some, List, map, take, length, get_or, slice_get, slice_set, option_map, refl, sym, subst, ap, ◌∙◌, arith, rules}
+use Rattle.std.proofs.Common.{◌≡◌, ◌≤◌, true, None, Some, slice_set, option_map, sym, subst, ap, ◌∙◌, arith, rules}
 use Rattle.std.proofs.lemmas.Option.{get_or_from_slice_get}
 use Rattle.dpl_language.specs.Tree.{NoStmts, Then}
 use Rattle.dpl_language.specs.Expressions.{value_of}
 use Rattle.dpl_memory.specs.Memory.{in_memory}
-use Rattle.dpl_nodes.specs.declared.step.Step.{Step}
-use Rattle.dpl_nodes.specs.Typed.{int_view, truth_view}
+use Rattle.dpl_nodes.specs.Typed.{int_view}
 use Rattle.dpl_readings.specs.Readings.{step_in}
-use Rattle.dpl_strips.specs.Strips.{Written, HoldsInTurns}
+use Rattle.dpl_strips.specs.Strips.{HoldsInTurns}
 use Rattle.dpl_batches.specs.Stores.{goes_in, AreFound}
 use Rattle.dpl_batches.specs.declared.store.Store.{Store}
-use Rattle.dpl_words.specs.Words.{intent_at}
 use Rattle.dpl_batches.specs.Folded.{Folds}
 use Rattle.dpl_standing.specs.Standing.{Outside}
 use Rattle.dpl_batches.proofs.Found.{apart-alike, as-many}

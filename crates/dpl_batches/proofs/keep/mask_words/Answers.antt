@@ -1,6 +1,6 @@
 -- One word that isn't 0 stands everywhere.
 -- These are the answers to the goals of `mask_words`.
-use Rattle.std.proofs.Common.{◌≡◌, ℕ, pos, not, option_map, sym, ap, ◌∙◌}
+use Rattle.std.proofs.Common.{pos, not, option_map, sym, ap, ◌∙◌}
 use Rattle.std.specs.Ordering.{int_eq}
 use Rattle.dpl_strips.proofs.Strips.{repeated}
 use Rattle.dpl_batches.specs.Stores.{goes_in}

@@ -1,15 +1,14 @@
 -- The words that are kept back are those of the truth values that the statement puts, or the own ones.
 -- These are the answers to the goals of `truths`.
-use Rattle.std.proofs.Common.{◌≡◌, ◌<◌, ◌≤◌, ℕ, pos, true, None, Some, List, map, take, length, get_or, slice_get, slice_set, option_map, refl, sym, subst, ap, ◌∙◌, arith, rules}
+use Rattle.std.proofs.Common.{◌≡◌, ◌<◌, ◌≤◌, ℕ, pos, true, None, Some, length, get_or, slice_set, option_map, sym, subst, ap, ◌∙◌, arith, rules}
 use Rattle.std.proofs.lemmas.Option.{get_or_from_slice_get}
 use Rattle.dpl_language.specs.Tree.{NoStmts, Then}
 use Rattle.dpl_language.specs.Expressions.{value_of}
 use Rattle.dpl_memory.specs.Memory.{in_memory}
-use Rattle.dpl_nodes.specs.declared.step.Step.{Step}
-use Rattle.dpl_nodes.specs.Typed.{int_view, truth_view}
+use Rattle.dpl_nodes.specs.Typed.{truth_view}
 use Rattle.dpl_nodes.specs.Steps.{truth_stated}
 use Rattle.dpl_readings.specs.Readings.{step_in}
-use Rattle.dpl_strips.specs.Strips.{Written, HoldsInTurns, own_word}
+use Rattle.dpl_strips.specs.Strips.{own_word}
 use Rattle.dpl_strips.specs.Truths.{TruthsHoldInTurns}
 use Rattle.dpl_batches.specs.Stores.{by_now, AreFound}
 use Rattle.dpl_batches.specs.declared.store.Store.{Store}

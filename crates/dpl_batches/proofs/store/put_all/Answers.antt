@@ -1,6 +1,6 @@
 -- Each store has room, as all have.
 -- These are the answers to the goals of `put_all`.
-use Rattle.std.proofs.Common.{◌≡◌, ◌<◌, length, slice_get, Some, sym, ap, ◌∙◌, rules}
+use Rattle.std.proofs.Common.{◌<◌, length, Some, sym, ap, ◌∙◌, rules}
 use Rattle.std.proofs.lemmas.Option.{slice_get-get_or}
 use Rattle.dpl_batches.proofs.Stores.{room-at}
 use Rattle.dpl_batches.proofs.store.put_all.Goals as goal

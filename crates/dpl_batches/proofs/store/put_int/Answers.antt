@@ -1,6 +1,6 @@
 -- The ints of a store are folded one after another.
 -- These are the answers to the goals of `put_int`.
-use Rattle.std.proofs.Common.{◌≡◌, sym, ap, ◌∙◌, FitsSigned, w64, rules}
+use Rattle.std.proofs.Common.{sym, ap, ◌∙◌, FitsSigned, w64, rules}
 use Rattle.std.proofs.lemmas.Int.{to_z-of_z}
 use Rattle.dpl_language.specs.Values.{Int}
 use Rattle.dpl_words.specs.Words.{IntLeaf}

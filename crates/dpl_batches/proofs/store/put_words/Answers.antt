@@ -1,7 +1,7 @@
 -- Words that are put side by side are what the store leaves in as many turns.
 -- These are the answers to the goals of `put_words`.
-use Rattle.std.proofs.Common.{◌≡◌, ◌≤◌, take, length, sym, ap, ◌∙◌, arith, rules}
-use Rattle.dpl_memory.specs.Memory.{array_at, with_array, held_with}
+use Rattle.std.proofs.Common.{◌≡◌, ◌≤◌, length, sym, ap, ◌∙◌, arith, rules}
+use Rattle.dpl_memory.specs.Memory.{array_at, with_array}
 use Rattle.dpl_frame.specs.Frames.{with_memory}
 use Rattle.dpl_strips.proofs.Strips.{take-few}
 use Rattle.dpl_batches.proofs.Stores.{turns-put, taken-put}
