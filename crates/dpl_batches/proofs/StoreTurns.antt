@@ -95,8 +95,7 @@ own-made names [] k s u apart there own = tt
 own-made names (x ∷ xs) k s u apart there own =
     let v = stored x k u in
     let others = leaves-all_stored xs k v in
-    let this = leaves-stored x k u in
-    (
+    let this = leaves-stored x k u in (
       ap (held_at (behind k x.at)) (others.arrays x.slot apart.0) ∙ own-by x.is_made x.fold x k s u there.0 own.0,
       own-made names xs k s v apart.4 there.1 (own-after xs k x.slot s u v apart.0 this.arrays own.1),
     )

@@ -239,8 +239,8 @@ bound_at-other names slot t u apart =
     let n = get_or ns slot (pos 0) in
     let m = bound_at names t u in
     let same : m.words.numbers ≡ set m.words.numbers slot n =
-        ap (λ ns. (bound_at names t (with_numbers u ns)).words.numbers) (sym (set-get_or ns slot (pos 0)))
-        ∙ ap (λ (m : Memory). m.words.numbers) (bound_at-number names slot n t u apart) in
+    ap (λ ns. (bound_at names t (with_numbers u ns)).words.numbers) (sym (set-get_or ns slot (pos 0)))
+    ∙ ap (λ (m : Memory). m.words.numbers) (bound_at-number names slot n t u apart) in
     let long : length m.words.numbers ≡ length ns = bound_at-long names t u in
     ⊎_elim
     (λ (within : slot < length ns). ap (λ ns. get_or ns slot (pos 0)) same ∙ get_or-set_same m.words.numbers slot n (pos 0) (omega (arith, within, long)))
@@ -303,17 +303,17 @@ module _
   made-put row plain puts k u =
       let w = word_of y k in
       let is : (m : Memory) → stored y k m ≡ put_word x.slot x.at k w m =
-          λ m.
-          ap (λ b. stored_by b y.fold y k m) made
-          ∙ ap (λ f. stored_by true f y k m) puts
-          ∙ ap (λ slot. put_word slot y.at k w m) same
-          ∙ ap (λ at. put_word x.slot at k w m) row in
+      λ m.
+      ap (λ b. stored_by b y.fold y k m) made
+      ∙ ap (λ f. stored_by true f y k m) puts
+      ∙ ap (λ slot. put_word slot y.at k w m) same
+      ∙ ap (λ at. put_word x.slot at k w m) row in
       let over : (m : Memory) → stored y k (stored x k m) ≡ stored y k m =
-          λ m.
-          is (stored x k m)
-          ∙ ap (λ f. put_word x.slot x.at k w (stored_by x.is_made f x k m)) plain
-          ∙ over-by x.is_made x k w m
-          ∙ sym (is m) in
+      λ m.
+      is (stored x k m)
+      ∙ ap (λ f. put_word x.slot x.at k w (stored_by x.is_made f x k m)) plain
+      ∙ over-by x.is_made x k w m
+      ∙ sym (is m) in
       made-stored names xs i x y k u apart at same over ∙ is (all_stored xs k u)
 
   -- or they are folded onto an int, which nothing has been folded onto
@@ -343,8 +343,7 @@ apart-set names [] i x y at same row apart = absurd (none-some x at)
 apart-set names (z ∷ xs) zero x y at same row apart =
     let is : z ≡ x = same_Some z x at in
     let slots : z.slot ≡ y.slot = ap (λ (z : Store). z.slot) is ∙ sym same in
-    let rows : z.at ≡ y.at = ap (λ (z : Store). z.at) is ∙ sym row in
-    (
+    let rows : z.at ≡ y.at = ap (λ (z : Store). z.at) is ∙ sym row in (
       subst (IsFree (map unmade xs)) slots apart.0,
       subst (IsApart names) slots apart.1,
       subst (λ (at : Row). 0 < length at.first) rows apart.2,

@@ -9,10 +9,10 @@ ghost use Rattle.dpl_readings.specs.Readings.{step_in, else_in, steps_in};
 ghost use Rattle.dpl_elements.specs.Turns.{index_turn};
 ghost use Rattle.dpl_batches.specs.Stores.{else_body, AreApart, AreFound};
 
-use crate::variables::bind;
 use crate::keep::{mask_unless, mask_where, plain};
 use crate::store::{MOST, Store, Variable, are_apart, put_all, targets};
 use crate::turn::{behind, has_room};
+use crate::variables::bind;
 use dpl_frame::{Arrays, Frame};
 use dpl_loop::{Row, STRIP, Strip};
 use dpl_nodes::{Else, IndexExpr, Names, Step, TruthTarget};
@@ -65,11 +65,7 @@ fn is_among(found: &[Variable], slot: usize) -> bool {
 }
 
 // A variable more that turns write, unless it is among them. None where they are too many.
-fn with_variable(
-    variable: Variable,
-    found: &mut [Variable; MOST],
-    count: usize,
-) -> Option<usize>
+fn with_variable(variable: Variable, found: &mut [Variable; MOST], count: usize) -> Option<usize>
     requires { count ≤ 4 }
     ensures { IfSome result (λ n. n ≤ 4) }
 {
@@ -123,7 +119,9 @@ fn also_written<'t, A: Arrays>(
         Step::Nothing => Some(count),
         Step::Block(body) => all_written(body, names, row, frame, found, count),
         Step::If {
-            body, otherwise, ..
+            body,
+            otherwise,
+            ..
         } => {
             let Some(all) = all_written(body, names, row, frame, found, count) else {
                 return None;
@@ -223,7 +221,13 @@ fn branches<'t, A: Arrays>(
     };
     let mut holds = Strip::none(row);
     let written = targets(stores, row);
-    turn_truths(condition, names, &written[..stores.len()], frame, &mut holds);
+    turn_truths(
+        condition,
+        names,
+        &written[..stores.len()],
+        frame,
+        &mut holds,
+    );
     let known = size.min(holds.size);
     let met = mask_where(mask, &holds.words);
     let unmet = mask_unless(mask, &holds.words);

@@ -161,16 +161,18 @@ fn put_int<A: Arrays>(fold: IntFold, store: &Store, size: usize, frame: &mut Fra
     requires folds { store.now.fold ≡ Some fold }
     ensures { frame.new ≡ with_memory (stored_in_turns store.now size frame.old.memory) frame.old }
 {
-    let word = folded_where(fold, frame.number(store.slot), &store.mask, &store.words, size);
+    let word = folded_where(
+        fold,
+        frame.number(store.slot),
+        &store.mask,
+        &store.words,
+        size,
+    );
     frame.set_number(store.slot, word);
 }
 
 // Puts the words that a store has for so many turns into its elements: as many as lie side by side, and the others one by one.
-fn put_words<A: Arrays>(
-    store: &Store,
-    size: usize,
-    frame: &mut Frame<A>,
-) -> Result<(), AllocError>
+fn put_words<A: Arrays>(store: &Store, size: usize, frame: &mut Frame<A>) -> Result<(), AllocError>
     requires cap { size ≤ 64 }
     requires room { HasRoom store.now.at 64 }
     requires made { store.now.is_made ≡ true }

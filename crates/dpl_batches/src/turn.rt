@@ -14,8 +14,8 @@ ghost use Rattle.dpl_strips.specs.Strips.{one_written, GoesFrom};
 ghost use Rattle.dpl_elements.specs.Turns.{HasRoom, IsApart, index_turn};
 
 use crate::batch::make_batch;
-use crate::variables::bind;
 use crate::fold::{fold_of, folded};
+use crate::variables::bind;
 use dpl_domain::Index;
 use dpl_elements::put_row;
 use dpl_frame::{Arrays, Frame};
