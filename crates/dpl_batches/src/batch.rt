@@ -1,7 +1,7 @@
 // Bodies of several statements, and of `if`s, whose turns are made at once: each statement is found for all turns of a row before the next one
 // is, and what it leaves in variables is kept back (store.rt, keep.rt). At the end that is put, for as many turns as every statement was found.
 
-ghost use Rattle.std.specs.Prelude.{◌≡◌, ◌≤◌, ◌<◌, ℕ, None, Some, length, option_map, IfSome, IfOk};
+ghost use Rattle.std.specs.Prelude.{◌≡◌, ◌≤◌, ◌<◌, None, Some, length, option_map, IfSome, IfOk};
 ghost use Rattle.dpl_language.specs.Tree.{NoStmts, Then};
 ghost use Rattle.dpl_standing.specs.Standing.{Standing};
 ghost use Rattle.dpl_loop.specs.Runs.{AreDone};

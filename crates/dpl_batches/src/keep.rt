@@ -1,8 +1,7 @@
 // Statements whose words are found for several turns at once and kept back (store.rt). Those that stand behind a condition are found for all
 // these turns, and count where a mask has another word than 0; no word of a strip has a fault, so this changes nothing.
 
-ghost use Rattle.std.specs.Prelude.{◌≡◌, ◌≤◌, ◌<◌, ℕ, pos, ◌&&◌, not, if◌then◌else◌, None, Some, true, false, map, length, get_or, slice_get, option_map, IfSome};
-ghost use Rattle.std.specs.Ordering.{int_eq};
+ghost use Rattle.std.specs.Prelude.{◌≡◌, ◌≤◌, ◌<◌, ℕ, pos, ◌&&◌, not, if◌then◌else◌, None, Some, map, length, get_or, slice_get, option_map, IfSome};
 ghost use Rattle.dpl_language.specs.Tree.{NoStmts, Then};
 ghost use Rattle.dpl_standing.specs.Standing.{Standing};
 ghost use Rattle.dpl_readings.specs.Readings.{step_in};
@@ -16,7 +15,6 @@ use dpl_frame::{Arrays, Frame};
 use dpl_loop::{Row, STRIP, Strip};
 use dpl_nodes::{IndexExpr, Names, Step, TruthTarget};
 use dpl_strips::{is_same, turn_ints, turn_row, turn_truths};
-use dpl_tree::Assign;
 
 /// The words of a mask by which a statement counts: where a condition holds, and another mask says so, if there is one.
 pub(crate) fn mask_where(mask: Option<&[i64; STRIP]>, holds: &[i64; STRIP]) -> [i64; STRIP]

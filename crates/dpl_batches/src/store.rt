@@ -1,7 +1,7 @@
 // What the turns of a row leave in variables, kept back until all their statements are found (specs/Stores.antt). Then each is put for all
 // these turns, one after another.
 
-ghost use Rattle.std.specs.Prelude.{◌≡◌, ◌≤◌, ◌<◌, ℕ, map, take, drop, length, slice_get, Some, true, false, IfSome, IfOk};
+ghost use Rattle.std.specs.Prelude.{◌≡◌, ◌≤◌, ◌<◌, map, take, drop, length, slice_get, Some, true, false, IfSome, IfOk};
 ghost use Rattle.dpl_frame.specs.Frames.{with_memory};
 ghost use Rattle.dpl_elements.specs.Turns.{HasRoom};
 ghost use Rattle.dpl_strips.specs.Strips.{written, IsFree};

@@ -24,7 +24,7 @@ use crate::rows::domain_rows;
 use crate::statement::run;
 use dpl_batches::bind;
 use dpl_domain::{Cursor, Domain, Index};
-use dpl_frame::{Arrays, DomainWord, Frame, Trap};
+use dpl_frame::{DomainWord, Frame, Trap};
 use dpl_loop::RunStop;
 use dpl_nodes::{DomainExpr, Names, Spot, Step};
 use dpl_values::budget::within_budget;
