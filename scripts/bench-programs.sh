@@ -1,6 +1,6 @@
 #!/bin/sh
 # Times dpl on a forall of ten million turns, on Collatz sequences up to a number, on the programs of benches/programs (a sieve, stencils over a
-# line and a plane, sums over arrays, an assignment to a whole array, and the print of one), on 50,000 statements and on a mebibyte of spaces, each beside lua5.4,
+# line and a plane, sums over arrays, an assignment to a whole array, bodies of several statements, and the print of an array), on 50,000 statements and on a mebibyte of spaces, each beside lua5.4,
 # luajit, python3, numpy and C doing the same where they have it, all in one run; python3, which is slow, in the first round alone. At the end stands how much
 # memory the stencil over a plane takes.
 # usage: scripts/bench-programs.sh [ROUNDS [LAST]]. Needs rt, python3 and cc, and beside them lua5.4, luajit, and numpy for /usr/bin/python3 (a column is 0
@@ -77,9 +77,9 @@ head -c 1048576 /dev/zero | tr '\0' ' ' > "$work/spaces.chpl"
 find_executable
 dpl=$executable
 cp "$top"/benches/programs/* "$work"
-for program in turns collatz sieve line plane plate jacobi sums promoted assigned printed; do cc -O2 -o "$work/$program" "$work/$program.c"; done
+for program in turns collatz sieve line plane plate jacobi sums promoted assigned several printed; do cc -O2 -o "$work/$program" "$work/$program.c"; done
 # luajit has no `//`, and its numbers are doubles: so the sum of squares is another one there.
-for program in turns collatz sieve line plane plate jacobi sums promoted assigned printed statements; do
+for program in turns collatz sieve line plane plate jacobi sums promoted assigned several printed statements; do
     sed 's|\(([^()]*)\) // \([0-9]*\)|math.floor(\1 / \2)|g; s|\([a-z]*\) // \([0-9]*\)|math.floor(\1 / \2)|g' "$work/$program.lua" > "$work/$program.jit.lua"
 done
 
@@ -108,7 +108,7 @@ beside() {
 }
 
 for round in $(seq "$rounds"); do
-    for program in turns collatz sieve line plane plate jacobi sums promoted assigned printed statements; do beside "$program" "$round"; done
+    for program in turns collatz sieve line plane plate jacobi sums promoted assigned several printed statements; do beside "$program" "$round"; done
     echo "spaces $(seconds spaces.chpl "$dpl") 0 0 0 0 0"
 done | awk '
     !($1 in order) { order[$1] = ++rows; name[rows] = $1; for (k = 2; k <= 7; k++) best[$1, k] = $k }
