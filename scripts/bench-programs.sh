@@ -1,8 +1,8 @@
 #!/bin/sh
 # Times dpl on a forall of ten million turns, on Collatz sequences up to a number, on the programs of benches/programs (a sieve, stencils over a
-# line and a plane, sums over arrays, an assignment to a whole array, bodies of several statements, and the print of an array), on 50,000 statements and on a mebibyte of spaces, each beside lua5.4,
-# luajit, python3, numpy and C doing the same where they have it, all in one run; python3, which is slow, in the first round alone. At the end stands how much
-# memory the stencil over a plane takes.
+# line and a plane, sums over arrays, an assignment to a whole array, bodies of several statements, and the print of an array), on 50,000
+# statements and on a mebibyte of spaces, each beside lua5.4, luajit, python3, numpy and C doing the same where they have it, all in one run;
+# python3, which is slow, in the first round alone. At the end stands how much memory the stencil over a plane takes.
 # usage: scripts/bench-programs.sh [ROUNDS [LAST]]. Needs rt, python3 and cc, and beside them lua5.4, luajit, and numpy for /usr/bin/python3 (a column is 0
 # without it); LAST, 1000000 without it, is where Collatz ends.
 set -eu

@@ -9,6 +9,7 @@ ghost use Rattle.dpl_readings.specs.Readings.{step_in, else_in, steps_in};
 ghost use Rattle.dpl_elements.specs.Turns.{index_turn};
 ghost use Rattle.dpl_batches.specs.Stores.{else_body, AreApart, AreFound};
 
+use crate::fold::fold_of;
 use crate::keep::{mask_unless, mask_where, plain};
 use crate::store::{MOST, Store, Variable, are_apart, put_all, targets};
 use crate::turn::{behind, has_room};
@@ -42,10 +43,13 @@ fn written_by<'t, A: Arrays>(
     frame: &Frame<A>,
 ) -> Option<Variable> {
     match step {
-        Step::Int(_, slot, _) => Some(Variable {
-            slot: *slot,
-            at: row,
-        }),
+        Step::Int(deed, slot, _) => match fold_of(deed, frame.operator(*slot)) {
+            Some(_) => Some(Variable {
+                slot: *slot,
+                at: row,
+            }),
+            None => None,
+        },
         Step::SetElement(name, index, _, _, _) => element_of(name.slot, index, names, row, frame),
         Step::Truth(TruthTarget::Element(name, index), _) => element_of(
             name.slot, index, names, row, frame,
@@ -160,6 +164,9 @@ fn statements<'t, A: Arrays>(
     let mut left = size;
     for k in 0..body.len() {
         left = statement(&body[k], mask, names, row, frame, stores, left);
+        if left == 0 {
+            return 0;
+        }
     }
     left
 }

@@ -84,3 +84,11 @@ statements-loop-k-preserved g t c =
           let next = subst (λ ts. LeftToFind f.limits names row f.memory mask whole xs (steps_in w ts) left ys) (drop-slice_get body k step at) (before.does w) in
           next-left f.limits names row f.memory mask whole xs (step_in w step) (steps_in w (drop (k + 1) body)) ys zs left size fewer before.alike before.there next (found w);
     }
+
+-- of no turn nothing is said
+pub statements-returns-then-left-eq0-clause-found : goal.statements-returns-then-left-eq0-clause-found
+statements-returns-then-left-eq0-clause-found g t c w = record {
+  alike = (c.statement-left.ensures.found Outside).alike ∙ c.loop-k.invariant.alike;
+  there = λ k below. absurd (omega (arith, below));
+  does = λ k below. absurd (omega (arith, below));
+}
