@@ -487,7 +487,7 @@ each::domain_turns-returns-clause-ends g t c done =
     let having = g.C.Context.having in
     let standing = g.C.Context.standing in
     let limits = c.args.frame.now.limits in
-    let none = walk-end c.loop-index.indices (sym c.in_default.ensures.next) in
+    let none = walk-end c.loop-index.indices (sym c.in_default-next.ensures.next) in
     sym (c.loop-index.invariant.ends done) ∙ ap (λ ts. in_order (index_turn limits c.args.names.now (steps_in standing c.args.body.now)) ts c.loop-index.frame.memory (having c.loop-index.out done)) none
 
 pub each::domain_turn-returns-clause-limits : goal.each::domain_turn-returns-clause-limits
