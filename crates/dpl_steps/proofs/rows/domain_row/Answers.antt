@@ -20,7 +20,7 @@ returns-clause-within g c =
 
 pub returns-clause-goes : goal.returns-clause-goes
 returns-clause-goes g c w done =
-    ok-both c.make_row.result c.make_row.ensures.most c.make_row.ensures.done
+    ok-both c.make_row.result c.make_row.ensures.most (c.make_row.ensures.done w)
     (λ made most are. in_order-row (index_turn c.args.frame.now.limits c.args.names.now (steps_in w c.args.body.now)) (indices c.args.domain.now) c.args.place c.of-row.result.0 made
-    c.args.frame.now.memory c.make_row.new.frame.memory done (are w)
+    c.args.frame.now.memory c.make_row.new.frame.memory done are
     (λ k below. c.of-row.ensures.there k (omega (arith, below, most))))
