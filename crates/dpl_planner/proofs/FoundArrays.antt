@@ -15,7 +15,7 @@ use Rattle.dpl_typer.specs.Makers.{kind_if}
 use Rattle.dpl_typer.specs.Leaves.{kind_by, leaf_by}
 use Rattle.dpl_typer.specs.Sights.{over_by, sighted_at, sight_of}
 use Rattle.dpl_planner.specs.Overs.{slot_of_bound, innermost_arrays, IsFoundBy, passed, IsAsDeep}
-use Rattle.dpl_planner.proofs.Scoped.{sight_of-next}
+use Rattle.dpl_runnable.proofs.Scoped.{sight_of-next}
 
 -- ---- SLOTS
 pub some_if : (b : Bool) (k : VariableKind) → is_some (kind_if b k) ≡ b

@@ -1,175 +1,32 @@
--- The head of a loop that runs: it is over a range or a domain, its variables have a type, and each has a name of its own.
--- So the planner refuses no such head.
-use Rattle.std.proofs.Common.{◌≡◌, ◌≢◌, ◌⊎◌, inl, inr, ℕ, Bool, true, false, List, [], ◌∷◌, Option, Some, None, refl, sym, ap, ◌∙◌, subst, arith}
-use Rattle.std.specs.Prelude.{nat_lt, ◌==◌, ◌&&◌, not, if◌then◌else◌}
+-- The head of a loop that runs over a range: its one variable is an int.
+-- So the planner refuses no such loop.
+use Rattle.std.proofs.Common.{◌≡◌, Option, Some, None, sym, ap, ◌∙◌, subst}
 use Rattle.std.proofs.lemmas.Option.{none-some}
-use Rattle.std.proofs.lemmas.Bool.Decides.{nat_tests}
-use Rattle.dpl_syntax.specs.declared.refusal.Code.TheVariants.{NameTwice}
-use Rattle.dpl_language.specs.Tree.{Placed, ExprTree, Number, TruthWord, Named, LocalesWord, LocaleCount, HereWord, Grouped, DomainLiteral, Prefixed, Reduced, Chain, Postfixed, ItemTree, One, RangeItem, VariablesTree, OneVariable, ManyVariables}
+use Rattle.dpl_language.specs.Tree.{ItemTree, VariablesTree, OneVariable, ManyVariables}
 use Rattle.dpl_language.specs.Names.{Text}
-use Rattle.dpl_language.specs.Phrases.{parts}
 use Rattle.dpl_agreement.specs.Renamed.{renamed_variables}
-use Rattle.dpl_rules.specs.Types.{ValueType, Scalar, Range, Domain, Array, Promoted, Tuple, Locale, AllLocales, Cell, an_int}
-use Rattle.dpl_rules.specs.Verdicts.{owed}
-use Rattle.dpl_rules.specs.Sights.{LoopVariable, Scopes, declared_here, enter, add, origin_in}
+use Rattle.dpl_rules.specs.Types.{ValueType, Range, Domain, Tuple, an_int}
+use Rattle.dpl_rules.specs.Sights.{Scopes, enter}
 use Rattle.dpl_rules.specs.Expressions.{item_type}
-use Rattle.dpl_rules.specs.Loops.{LoopWord, ForWord, ForallWord, one_type, variable_type, fits_variables, typed_variable, each_once, variables_of, over_type}
-use Rattle.dpl_rules.proofs.Admission.{first_empty, second_empty}
-use Rattle.dpl_sound.proofs.Given.{some-same, both_so, owed_not-holds}
-use Rattle.dpl_sound.proofs.Loops.{SameNames, same_names-add}
+use Rattle.dpl_rules.specs.Loops.{LoopWord, typed_variable}
+use Rattle.dpl_sound.proofs.Given.{some-same}
 use Rattle.dpl_lowered.specs.LoweredStatements.{lowered_variables}
 use Rattle.dpl_words.specs.Words.{IntLeaf, RangeLeaf}
-use Rattle.dpl_memory.specs.Memory.{VariableKind, PlainKind, DomainKind, TupleKind, Variable}
+use Rattle.dpl_memory.specs.Memory.{VariableKind, PlainKind, TupleKind, Variable}
 use Rattle.dpl_memory.specs.Resolved.{variable_of}
 use Rattle.dpl_nodes.specs.declared.step.Names.{Names}
 use Rattle.dpl_nodes.specs.declared.step.Names.TheVariants as names
 use Rattle.dpl_nodes.specs.Steps.{names_view}
-use Rattle.dpl_typer.specs.Makers.{kind_if}
-use Rattle.dpl_typer.specs.Simple.{IsSimple, IsSimpleItem}
-use Rattle.dpl_typer.specs.Leaves.{is_rank, is_tuple_rank, value_kind, kind_by, IsOfType}
-use Rattle.dpl_typer.proofs.OperatorKinds.{kind_if-some}
-use Rattle.dpl_runnable.specs.Runnable.{IsItemOf, IsOneVariable, RunsOver, IsRunnableHeader}
+use Rattle.dpl_typer.specs.Leaves.{value_kind, IsOfType}
+use Rattle.dpl_runnable.specs.Runnable.{IsOneVariable, IsRunnableHeader}
+use Rattle.dpl_runnable.proofs.Headers.{runs-one, over-known}
 use Rattle.dpl_planner.specs.declared.loops.Iterable.{Iterable}
 use Rattle.dpl_planner.specs.declared.loops.Iterable.TheVariants as over
 use Rattle.dpl_planner.specs.declared.progress.Plan.{Plan}
-use Rattle.dpl_planner.specs.Bounds.{loop_variable, bound_variables, loop_type}
-use Rattle.dpl_planner.specs.Parts.{IsTurnKind, AreTurnKinds, AreFresh, over_typed, IsIntOver, IsOpened}
-
--- WHAT A LOOP RUNS OVER is no bare word
-pub over-simple : (P : Text → Type 0) (ss : Scopes) (item : ItemTree Text) → IsSimpleItem P item → over_type ss item ≡ item_type ss item
-over-simple P ss (One e) h = by e h
-  where
-    by : (e : ExprTree Text) → IsSimple P e → over_type ss (One e) ≡ item_type ss (One e)
-    by (Number at n) h = refl
-    by (TruthWord at b) h = refl
-    by (Named x) h = refl
-    by (LocalesWord at) h = absurd h
-    by (LocaleCount at) h = refl
-    by (HereWord at) h = refl
-    by (Grouped from item upto) h = refl
-    by (DomainLiteral from items upto) h = refl
-    by (Prefixed at op e) h = refl
-    by (Reduced at op word e) h = refl
-    by (Chain e rest) h = refl
-    by (Postfixed e posts) h = refl
-over-simple P ss (RangeItem low at dots high by) h = refl
-
--- EACH NAME is new
-same_here : (ss ts : Scopes) (xs : List (Placed Text)) (t : Option ValueType) → SameNames ss ts → each_once ts xs ≡ [] → AreFresh t xs ss
-same_here ss ts [] t same once = tt
-same_here ss ts (x ∷ xs) t same once =
-    let front = owed (not (declared_here ts x.name)) x.at NameTwice in
-    let behind = add (record { origin = origin_in ts x.name; sort = LoopVariable; type = None }) ts in (
-      same x.name ∙ owed_not-holds (declared_here ts x.name) x.at NameTwice (first_empty front (each_once behind xs) once),
-      same_here (add (loop_variable t ss x.name) ss) behind xs t (same_names-add ss ts t None x.name same) (second_empty front (each_once behind xs) once),
-    )
-
-pub once-fresh : (ss : Scopes) (xs : VariablesTree Text) (t : Option ValueType) → each_once (enter ss) (variables_of xs) ≡ [] → AreFresh t (variables_of xs) (enter ss)
-once-fresh ss (OneVariable x) t once = (refl, tt)
-once-fresh ss (ManyVariables from xs upto) t once = same_here (enter ss) (enter ss) (parts xs) t (λ x. refl) once
-
--- THEIR TYPE
--- a rank that is not one is that of a tuple
-two_or_three : (rank : ℕ) → is_rank rank ≡ true → (rank == 1) ≡ false → is_tuple_rank rank ≡ true
-two_or_three rank r e =
-    let both = both_so (nat_lt 0 rank) (nat_lt rank 4) r in
-    let some = both.0 in
-    let two : nat_lt 1 rank ≡ true = grind (arith, nat_tests, some, e) in
-    ap (λ b. b && nat_lt rank 4) two ∙ both.1
-
-tuple-turns : (rank : ℕ) → is_rank rank ≡ true → (b : Bool) → (rank == 1) ≡ b → IsTurnKind (value_kind (if b then an_int else Tuple rank))
-tuple-turns rank r true e = tt
-tuple-turns rank r false e = subst IsTurnKind (sym (ap (λ b. kind_if b TupleKind) (two_or_three rank r e))) tt
-
-domain-turns : (xs : VariablesTree Text) (rank : ℕ) (strided : Bool) → is_rank rank ≡ true → fits_variables xs (Domain rank strided) ≡ true → (t : ValueType) × (variable_type xs (Domain rank strided) ≡ Some t) × AreTurnKinds xs (value_kind t)
-domain-turns (OneVariable x) rank strided r fits = (one_type (Domain rank strided), refl, tuple-turns rank r (rank == 1) refl)
-domain-turns (ManyVariables from xs upto) rank strided r fits = (an_int, ap (λ b. if b then Some an_int else None) fits, refl)
-
-range-turns : (xs : VariablesTree Text) (strided : Bool) → IsOneVariable xs → (t : ValueType) × (variable_type xs (Range strided) ≡ Some t) × AreTurnKinds xs (value_kind t)
-range-turns (OneVariable x) strided one = (an_int, refl, tt)
-range-turns (ManyVariables from xs upto) strided one = absurd one
-
-runs-typed : (word : LoopWord) → (word ≡ ForWord) ⊎ (word ≡ ForallWord) → (xs : VariablesTree Text) (u : ValueType) (k : VariableKind) → RunsOver xs u → value_kind u ≡ Some k → (t : ValueType) × (typed_variable word xs (Some u) ≡ Some t) × AreTurnKinds xs (value_kind t)
-runs-typed word which xs (Range strided) k runs e = by_word which
-  where
-    typed : (t : ValueType) × (variable_type xs (Range strided) ≡ Some t) × AreTurnKinds xs (value_kind t)
-    typed = range-turns xs strided runs
-
-    by_word : (word ≡ ForWord) ⊎ (word ≡ ForallWord) → (t : ValueType) × (typed_variable word xs (Some (Range strided)) ≡ Some t) × AreTurnKinds xs (value_kind t)
-    by_word (inl is) = (typed.0, ap (λ w. typed_variable w xs (Some (Range strided))) is ∙ typed.1, typed.2)
-    by_word (inr is) = (typed.0, ap (λ w. typed_variable w xs (Some (Range strided))) is ∙ typed.1, typed.2)
-runs-typed word which xs (Domain rank strided) k runs e = by_word which
-  where
-    typed : (t : ValueType) × (variable_type xs (Domain rank strided) ≡ Some t) × AreTurnKinds xs (value_kind t)
-    typed = domain-turns xs rank strided (kind_if-some (is_rank rank) DomainKind k e).0 runs
-
-    by_word : (word ≡ ForWord) ⊎ (word ≡ ForallWord) → (t : ValueType) × (typed_variable word xs (Some (Domain rank strided)) ≡ Some t) × AreTurnKinds xs (value_kind t)
-    by_word (inl is) = (typed.0, ap (λ w. typed_variable w xs (Some (Domain rank strided))) is ∙ typed.1, typed.2)
-    by_word (inr is) = (typed.0, ap (λ w. typed_variable w xs (Some (Domain rank strided))) is ∙ typed.1, typed.2)
-runs-typed word which xs (Scalar l) k runs e = absurd runs
-runs-typed word which xs (Array l o) k runs e = absurd runs
-runs-typed word which xs (Promoted l o) k runs e = absurd runs
-runs-typed word which xs (Tuple rank) k runs e = absurd runs
-runs-typed word which xs Locale k runs e = absurd runs
-runs-typed word which xs AllLocales k runs e = absurd runs
-runs-typed word which xs (Cell l) k runs e = absurd runs
-
-runs-kind : (xs : VariablesTree Text) (u : ValueType) (k : VariableKind) → RunsOver xs u → value_kind u ≡ Some k → (k ≡ PlainKind RangeLeaf) ⊎ (k ≡ DomainKind)
-runs-kind xs (Range strided) k runs e = inl (sym (some-same (PlainKind RangeLeaf) k e))
-runs-kind xs (Domain rank strided) k runs e = inr (sym (kind_if-some (is_rank rank) DomainKind k e).1)
-runs-kind xs (Scalar l) k runs e = absurd runs
-runs-kind xs (Array l o) k runs e = absurd runs
-runs-kind xs (Promoted l o) k runs e = absurd runs
-runs-kind xs (Tuple rank) k runs e = absurd runs
-runs-kind xs Locale k runs e = absurd runs
-runs-kind xs AllLocales k runs e = absurd runs
-runs-kind xs (Cell l) k runs e = absurd runs
-
--- over a range there is one variable, which is an int
-runs-one : (xs : VariablesTree Text) (u : ValueType) → RunsOver xs u → value_kind u ≡ Some (PlainKind RangeLeaf) → IsOneVariable xs × ((word : LoopWord) → (t : ValueType) → typed_variable word xs (Some u) ≡ Some t → t ≡ an_int)
-runs-one (OneVariable x) (Range strided) runs e = (tt, λ word t typed. sym (some-same an_int t typed))
-runs-one (ManyVariables from xs upto) (Range strided) runs e = absurd runs
-runs-one xs (Domain rank strided) runs e = absurd (let f : DomainKind ≡ PlainKind RangeLeaf = (kind_if-some (is_rank rank) DomainKind (PlainKind RangeLeaf) e).1 in cc)
-runs-one xs (Scalar l) runs e = absurd runs
-runs-one xs (Array l o) runs e = absurd runs
-runs-one xs (Promoted l o) runs e = absurd runs
-runs-one xs (Tuple rank) runs e = absurd runs
-runs-one xs Locale runs e = absurd runs
-runs-one xs AllLocales runs e = absurd runs
-runs-one xs (Cell l) runs e = absurd runs
+use Rattle.dpl_runnable.specs.Bounds.{bound_variables, loop_type}
+use Rattle.dpl_planner.specs.Parts.{over_typed, IsIntOver, IsOpened}
 
 module _ (ss : Scopes) (xs : VariablesTree Text) (item : ItemTree Text) (h : IsRunnableHeader ss xs item) where
-  of_kind : value_kind h.type ≡ Some h.kind
-  of_kind = ap kind_by (sym h.is) ∙ h.over.kind
-
-  pub header-over : IsItemOf ss item (PlainKind RangeLeaf) ⊎ IsItemOf ss item DomainKind
-  header-over = by (runs-kind xs h.type h.kind h.runs of_kind)
-    where
-      by : (h.kind ≡ PlainKind RangeLeaf) ⊎ (h.kind ≡ DomainKind) → IsItemOf ss item (PlainKind RangeLeaf) ⊎ IsItemOf ss item DomainKind
-      by (inl is) = inl (subst (IsItemOf ss item) is h.over)
-      by (inr is) = inr (subst (IsItemOf ss item) is h.over)
-
-  over-known : over_type ss item ≡ Some h.type
-  over-known = over-simple _ ss item h.over.simple ∙ h.is
-
-  pub header-typed : (word : LoopWord) → (word ≡ ForWord) ⊎ (word ≡ ForallWord) → (t : ValueType) × (loop_type ss word xs item ≡ Some t) × AreTurnKinds xs (value_kind t)
-  header-typed word which =
-      let typed = runs-typed word which xs h.type h.kind h.runs of_kind in
-      (typed.0, ap (typed_variable word xs) over-known ∙ typed.1, typed.2)
-
-  pub header-untyped : (word : LoopWord) → (word ≡ ForWord) ⊎ (word ≡ ForallWord) → loop_type ss word xs item ≢ None
-  header-untyped word which none =
-      let typed = header-typed word which in
-      none-some typed.0 (sym none ∙ typed.1)
-
-  pub header-kinds : (word : LoopWord) → (word ≡ ForWord) ⊎ (word ≡ ForallWord) → (t : ValueType) → loop_type ss word xs item ≡ Some t → AreTurnKinds xs (value_kind t)
-  header-kinds word which t e =
-      let typed = header-typed word which in
-      subst (λ t. AreTurnKinds xs (value_kind t)) (some-same typed.0 t (sym typed.1 ∙ e)) typed.2
-
-  pub header-fresh : (t : Option ValueType) → AreFresh t (variables_of xs) (enter ss)
-  header-fresh t = once-fresh ss xs t h.once
-
   -- a loop over a range has the slot of an int
   abbrev one_kind : VariablesTree Variable → Option VariableKind
   one_kind (OneVariable x) = Some x.name.kind
@@ -180,7 +37,7 @@ module _ (ss : Scopes) (xs : VariablesTree Text) (item : ItemTree Text) (h : IsR
   header-int word t a b (over.Range r) n typed at is opened =
       let range : value_kind h.type ≡ Some (PlainKind RangeLeaf) = (subst (IsOfType (over_typed (over.Range r))) h.is is).0 in
       let one = runs-one xs h.type h.runs range in
-      let int = one.1 word t (ap (typed_variable word xs) (sym over-known) ∙ typed) in
+      let int = one.1 word t (ap (typed_variable word xs) (sym (over-known ss xs item h)) ∙ typed) in
       by n (ap one_kind opened.node ∙ kind_of_one xs one.0 int)
     where
       kind_of_one : (ys : VariablesTree Text) → IsOneVariable ys → t ≡ an_int → one_kind (lowered_variables (renamed_variables variable_of (bound_variables (Some t) (enter a.scopes) ys))) ≡ Some (PlainKind IntLeaf)

@@ -1,4 +1,3 @@
-pub mod Scoped
 pub mod Spelled
 pub mod Items
 pub mod Mapped
@@ -9,7 +8,6 @@ pub mod Headers
 pub mod Opened
 pub mod Statements
 pub mod Lists
-pub mod Owed
 pub mod Declared
 pub mod Changed
 pub mod Printed

@@ -1,18 +1,14 @@
 -- What isn't planned of a statement doesn't run: right sides, initial values, arguments, and what a loop's head names.
 -- What is planned of one that runs is of its kind.
-use Rattle.std.proofs.Common.{◌≡◌, ◌≢◌, ◌⊎◌, inl, inr, ℕ, ◌+◌, ◌<◌, Bool, true, false, List, ◌∷◌, length, get_or, drop, Option, Some, None, refl, sym, ap, ◌∙◌, subst, map}
-use Rattle.std.specs.Prelude.{bytes_eq}
+use Rattle.std.proofs.Common.{◌≡◌, ◌≢◌, ◌⊎◌, inl, inr, ℕ, ◌+◌, ◌<◌, true, false, List, ◌∷◌, length, get_or, drop, Option, Some, None, refl, sym, ap, ◌∙◌, subst}
 use Rattle.std.proofs.lemmas.List.{drop_more}
 use Rattle.std.proofs.lemmas.Option.{none-some}
-use Rattle.std.proofs.lemmas.Slice.Eq.{bytes_eq-Decides}
-use Rattle.dpl_language.specs.Tree.{Op, Assign, Kind, IntKind, BoolKind, ExprTree, ItemTree, TypeTree, ScalarType, SyncType, DomainType, ArrayType, InitTree, ItemInit, CreateInit, InitialTree, DeclareTree}
+use Rattle.dpl_language.specs.Tree.{Op, Assign, Kind, ExprTree, ItemTree, TypeTree, ScalarType, SyncType, DomainType, ArrayType, InitTree, ItemInit, CreateInit, InitialTree, DeclareTree}
 use Rattle.dpl_language.specs.Names.{Text}
-use Rattle.dpl_language.specs.Declarations.{type_of}
-use Rattle.dpl_rules.specs.Types.{ValueType, Scalar, Domain, Cell}
-use Rattle.dpl_rules.specs.Sights.{Declared, Scopes, declared_here, origin_in}
-use Rattle.dpl_sound.proofs.Given.{some-same}
+use Rattle.dpl_rules.specs.Types.{ValueType}
+use Rattle.dpl_rules.specs.Sights.{Declared, Scopes}
 use Rattle.dpl_rules.specs.Expressions.{item_type, type_of as expr_type}
-use Rattle.dpl_rules.specs.Declarations.{is_kept, type_given, declaration_breaches, declared_by}
+use Rattle.dpl_rules.specs.Declarations.{declared_by}
 use Rattle.dpl_tree.specs.declared.statement.NextArgument.{NextArgument}
 use Rattle.dpl_tree.specs.declared.statement.NextIntent.{NextIntent}
 use Rattle.dpl_tree.specs.Statements.{argument_view, intent_view}
@@ -26,27 +22,19 @@ use Rattle.dpl_typer.specs.declared.make.Typed.{Typed}
 use Rattle.dpl_typer.specs.Makers.{kind_of, is_promoted}
 use Rattle.dpl_nodes.specs.declared.placing.Placing.{Placing}
 use Rattle.dpl_nodes.specs.declared.placing.Placing.TheVariants.{Derived}
-use Rattle.dpl_nodes.specs.Steps.{scalar_leaf}
 use Rattle.dpl_memory.specs.Resolved.{Bound}
 use Rattle.dpl_typer.specs.Leaves.{value_kind, kind_by, kind_in, IsOfType}
 use Rattle.dpl_typer.proofs.OperatorKinds.{kind-same}
 use Rattle.dpl_placing.specs.Roots.{IsInitPlacing, IsGivenPlacing, IsPlacingOf}
-use Rattle.dpl_runnable.specs.Kinds.{IsDeclaredKind, IsAssignedKind, IsGivenTo}
-use Rattle.dpl_runnable.specs.Runnable.{IsExprOf, IsItemOf, IsRunnableChange, IsRunnableType, IsShapedInitial, SaysNoMapInit, SaysNoMap, IsMappedBeside, IsRunnableDeclare, AreToldAlike, IsRunnableArgument, AreRunnableArguments, IsRunnableIntent, AreRunnableIntents}
-use Rattle.dpl_planner.specs.declared.progress.Reducing.{Reducing}
-use Rattle.dpl_planner.specs.Arrays.{IsNoArrayType}
-use Rattle.dpl_planner.specs.Parts.{IsSingleKind, IsChangedKind, IsSingleType, others_in, intents_among}
-use Rattle.dpl_planner.specs.Plans.{reducing_view}
-use Rattle.dpl_planner.proofs.Scoped.{unless-both, kept-single, untyped-declared}
+use Rattle.dpl_runnable.specs.Kinds.{IsAssignedKind, IsGivenTo}
+use Rattle.dpl_runnable.specs.Runnable.{IsExprOf, IsItemOf, IsRunnableChange, IsRunnableType, SaysNoMapInit, SaysNoMap, IsMappedBeside, IsRunnableDeclare, IsRunnableArgument, AreRunnableArguments, IsRunnableIntent, AreRunnableIntents}
+use Rattle.dpl_runnable.proofs.Singles.{single-given}
+use Rattle.dpl_runnable.specs.InSight.{IsNoArrayType, IsSingleKind}
+use Rattle.dpl_planner.specs.Parts.{IsChangedKind, IsSingleType, others_in, intents_among}
 
 -- ---- KINDS
 pub no_kind : (t : Option ValueType) (k : VariableKind) → t ≡ None → kind_by t ≢ Some k
 no_kind t k none e = none-some k (sym (ap kind_by none) ∙ e)
-
--- what has a kind has a type
-pub some-type : (o : Option ValueType) (k : VariableKind) → kind_by o ≡ Some k → (t : ValueType) × (o ≡ Some t)
-some-type None k e = absurd (none-some k e)
-some-type (Some t) k e = (t, refl)
 
 -- what is typed as of a kind is of that kind
 pub same_kind : (t : Typed) (u : Option ValueType) (k : VariableKind) → IsOfType t u → kind_by u ≡ Some k → kind_of t ≡ k
@@ -69,21 +57,6 @@ over-kind ss i t of_type (inr is) = inr (item-kind ss i DomainKind t of_type is)
 pub no_iterable : (ss : Scopes) (i : ItemTree Text) → ((k : VariableKind) → IsItemOf ss i k → item_type ss i ≡ None) → IsItemOf ss i (PlainKind RangeLeaf) ⊎ IsItemOf ss i DomainKind → ⊥
 no_iterable ss i none (inl is) = no_kind (item_type ss i) (PlainKind RangeLeaf) (none (PlainKind RangeLeaf) is) is.kind
 no_iterable ss i none (inr is) = no_kind (item_type ss i) DomainKind (none DomainKind is) is.kind
-
--- what is no array's is given a value of its own kind
-pub single-kind : (k : VariableKind) → IsDeclaredKind k → is_promoted k ≡ false → IsSingleKind k
-single-kind (PlainKind k) h e = tt
-single-kind DomainKind h e = tt
-single-kind TupleKind h e = absurd h
-single-kind (ArrayKind k) h e = absurd (let f : true ≡ false = e in cc)
-single-kind (CellKind c) h e = absurd h
-
-pub single-given : (k j : VariableKind) → IsSingleKind k → IsGivenTo k j → j ≡ k
-single-given (PlainKind k) j h e = e
-single-given DomainKind j h e = e
-single-given TupleKind j h e = absurd h
-single-given (ArrayKind k) j h e = absurd h
-single-given (CellKind c) j h e = absurd h
 
 pub given-kind : (ss : Scopes) (i : ItemTree Text) (t : Typed) (k j : VariableKind) → IsOfType t (item_type ss i) → IsSingleKind k → IsItemOf ss i j → IsGivenTo k j → kind_of t ≡ k
 given-kind ss i t k j of_type single is takes = item-kind ss i j t of_type is ∙ single-given k j single takes
@@ -153,29 +126,7 @@ single-type ss (Some (SyncType at kind_at k)) h n = absurd h
 single-type ss (Some (DomainType d)) h n = h
 single-type ss (Some (ArrayType a)) h n = absurd n
 
--- a declaration without an array's type is of no array
-single-kept : (ss : Scopes) (d : DeclareTree Text) (t : ValueType) (k : VariableKind) → IsNoArrayType (type_of d.typed) → (declared_by ss d).type ≡ Some t → value_kind t ≡ Some k → is_kept t ≡ true
-single-kept ss d t k none e kind = by (type_of d.typed) refl none
-  where
-    given : type_given ss (origin_in ss d.name.name) (type_of d.typed) d.initial ≡ Some t
-    given = (unless-both (declaration_breaches ss d) (type_given ss (origin_in ss d.name.name) (type_of d.typed) d.initial) t e).1
-
-    by : (y : Option (TypeTree Text)) → type_of d.typed ≡ y → IsNoArrayType y → is_kept t ≡ true
-    by None is n = untyped-declared ss d t is e
-    by (Some (ScalarType at l)) is n = ap is_kept (sym (some-same (Scalar l) t (subst (λ y. type_given ss (origin_in ss d.name.name) y d.initial ≡ Some t) is given)))
-    by (Some (SyncType at kind_at l)) is n =
-        let cell : Cell l ≡ t = some-same (Cell l) t (subst (λ y. type_given ss (origin_in ss d.name.name) y d.initial ≡ Some t) is given) in
-        absurd (none-some k (ap value_kind cell ∙ kind))
-    by (Some (DomainType y)) is n = ap is_kept (sym (some-same (Domain y.rank false) t (subst (λ y. type_given ss (origin_in ss d.name.name) y d.initial ≡ Some t) is given)))
-    by (Some (ArrayType a)) is n = absurd n
-
-pub declared-single_kind : (ss : Scopes) (d : DeclareTree Text) → IsNoArrayType (type_of d.typed) → (s : IsRunnableDeclare ss d) → IsSingleKind s.kind
-declared-single_kind ss d none s =
-    let typed = some-type (declared_by ss d).type s.kind s.declared in
-    let kind : value_kind typed.0 ≡ Some s.kind = ap kind_by (sym typed.1) ∙ s.declared in
-    single-kind s.kind s.kept (kept-single typed.0 s.kind (single-kept ss d typed.0 s.kind none typed.1 kind) kind)
-
--- ---- DECLARATIONS: one that runs has a type of its kind, and its name is new in its scope
+-- ---- DECLARATIONS: one that runs has a type of its kind
 module _ (ss : Scopes) (d : DeclareTree Text) (made : DeclaredNode) (same : declared_view made ≡ declared_by ss d) (s : IsRunnableDeclare ss d) where
   declared-kind : kind_by (of_type made.value_type) ≡ Some s.kind
   declared-kind = subst (λ (o : Declared). kind_by o.type ≡ Some s.kind) (sym same) s.declared
@@ -186,15 +137,7 @@ module _ (ss : Scopes) (d : DeclareTree Text) (made : DeclaredNode) (same : decl
   pub declared-held : (t : TypeNode) → made.value_type ≡ Some t → value_kind (type_view t) ≡ Some s.kind
   declared-held t typed = subst (λ o. kind_by (of_type o) ≡ Some s.kind) typed declared-kind
 
-  pub declared-shaped : (t : TypeNode) → made.value_type ≡ Some t → IsShapedInitial ss d.initial (type_view t)
-  declared-shaped t typed = s.shaped (type_view t) (sym (ap (λ (o : Declared). o.type) same) ∙ ap of_type typed)
-
-  pub declared-new : declared_here ss made.origin.name.now ≢ true
-  declared-new old =
-      let f : declared_here ss made.origin.name.now ≡ false = ap (λ (o : Declared). declared_here ss o.origin.name) same ∙ s.fresh in
-      absurd cc
-
--- ---- WHAT IS NEXT of arguments, of intents, and of the reduce variables around
+-- ---- WHAT IS NEXT of arguments and of intents
 pub arguments-next : (ss : Scopes) (xs : List NextArgument) (i : ℕ) (past : NextArgument) → i < length xs → AreRunnableArguments ss (others_in (drop i xs)) → IsRunnableArgument ss (argument_view (get_or xs i past).argument)
 arguments-next ss xs i past within are =
     let here : AreRunnableArguments ss (others_in (get_or xs i past ∷ drop (i + 1) xs)) = subst (λ ys. AreRunnableArguments ss (others_in ys)) (drop_more xs i past within) are in
@@ -204,30 +147,3 @@ pub intents-next : (ss : Scopes) (xs : List NextIntent) (i : ℕ) (past : NextIn
 intents-next ss xs i past within are =
     let here : AreRunnableIntents ss (intents_among (get_or xs i past ∷ drop (i + 1) xs)) = subst (λ ys. AreRunnableIntents ss (intents_among ys)) (drop_more xs i past within) are in
     here.0
-
-slot_of-scalar_leaf : (k : Kind) (slot : ℕ) → (scalar_leaf k slot).slot ≡ slot
-slot_of-scalar_leaf IntKind slot = refl
-slot_of-scalar_leaf BoolKind slot = refl
-
--- the next one is told by its name and its slot alike, and by neither or both
-pub told-alike : (x : Text) (slot : ℕ) (rs : List Reducing) (i : ℕ) (past : Reducing) (by_name : Bool) → i < length rs → AreToldAlike x slot (map reducing_view (drop i rs))
-    → by_name ≡ bytes_eq x (get_or rs i past).name.now → (by_name ≡ true × (slot ≢ (get_or rs i past).intent.slot)) ⊎ (by_name ≡ false)
-    → (by_name ≡ true) ⊎ (by_name ≡ false × (slot ≡ (get_or rs i past).intent.slot)) → ⊥
-told-alike x slot rs i past by_name within are is = by_cases by_name is
-  where
-    r : Reducing
-    r = get_or rs i past
-
-    here : AreToldAlike x slot (map reducing_view (r ∷ drop (i + 1) rs))
-    here = subst (λ ys. AreToldAlike x slot (map reducing_view ys)) (drop_more rs i past within) are
-
-    same : (scalar_leaf r.intent.kind r.intent.slot).slot ≡ r.intent.slot
-    same = slot_of-scalar_leaf r.intent.kind r.intent.slot
-
-    by_cases : (b : Bool) → b ≡ bytes_eq x r.name.now → (b ≡ true × (slot ≢ r.intent.slot)) ⊎ (b ≡ false) → (b ≡ true) ⊎ (b ≡ false × (slot ≡ r.intent.slot)) → ⊥
-    by_cases true is (inl other) both = other.1 (here.0 ((bytes_eq-Decides x r.name.now).0 (sym is)) ∙ same)
-    by_cases true is (inr unnamed) both = absurd cc
-    by_cases false is one (inl named) = absurd cc
-    by_cases false is one (inr other) =
-        let named = (bytes_eq-Decides x r.name.now).1 (here.1 (other.1 ∙ sym same)) in
-        absurd cc

@@ -14,7 +14,7 @@ use Rattle.dpl_nodes.specs.declared.step.Names.{Names}
 use Rattle.dpl_runnable.specs.Runnable.{IsRunnableStmt, IsRunnableBody, AreRunnableStmts, IsRunnableElse, AreRunnableTops}
 use Rattle.dpl_planner.specs.declared.progress.Plan.{Plan}
 use Rattle.dpl_planner.specs.declared.progress.Reducing.{Reducing}
-use Rattle.dpl_planner.specs.Bounds.{loop_type}
+use Rattle.dpl_runnable.specs.Bounds.{loop_type}
 use Rattle.dpl_planner.specs.Parts.{IsOpened}
 use Rattle.dpl_planner.specs.Plans.{reducing_view, intents_in, Goes}
 
@@ -30,8 +30,8 @@ pub stmt-entered : (a b : Plan) (t : StmtTree Text) → b ≡ record a { scopes 
 stmt-entered a b t opened h = subst (λ (p : Plan). IsRunnableStmt p.scopes (intents_in p) t) (sym opened) h
 
 -- what stands behind `else`, behind the body before it
-pub else-behind : (a b : Plan) (o : Else Text) → Goes a b a.scopes → IsRunnableElse a.scopes (intents_in a) o → IsRunnableElse b.scopes (intents_in b) o
-else-behind a b o goes h =
+pub else-behind : (a b : Plan) (o : Else Text) (n : ℕ) → Goes a b a.scopes n → IsRunnableElse a.scopes (intents_in a) o → IsRunnableElse b.scopes (intents_in b) o
+else-behind a b o n goes h =
     subst (λ ss. IsRunnableElse ss (intents_in b) o) (sym goes.scopes) (subst (λ is. IsRunnableElse a.scopes (map reducing_view is) o) (sym goes.intents) h)
 
 -- a loop's body, where the scope of the loop's variables is open
@@ -55,9 +55,9 @@ pub still_runnable-next : (old : Plan) (all : Stmts Text) (xs : List Stmt) (k : 
     → StillRunnable old all a (stmts_of (drop k xs)) → StillRunnable old all a (Then (stmt_view x) (stmts_of (drop (k + 1) xs)))
 still_runnable-next old all xs k x a within is f = subst (λ ts. StillRunnable old all a (stmts_of ts)) (drop-at xs k x within is) f
 
-pub still_runnable-at : (old : Plan) (all : Stmts Text) (xs : List Stmt) (k : ℕ) (x : Stmt) (a b : Plan) → k < length xs → x ≡ get_or xs k x
-    → StillRunnable old all a (stmts_of (drop k xs)) → Goes a b (behind a.scopes (stmt_view x)) → StillRunnable old all b (stmts_of (drop (k + 1) xs))
-still_runnable-at old all xs k x a b within is f goes = λ h.
+pub still_runnable-at : (old : Plan) (all : Stmts Text) (xs : List Stmt) (k : ℕ) (x : Stmt) (a b : Plan) (n : ℕ) → k < length xs → x ≡ get_or xs k x
+    → StillRunnable old all a (stmts_of (drop k xs)) → Goes a b (behind a.scopes (stmt_view x)) n → StillRunnable old all b (stmts_of (drop (k + 1) xs))
+still_runnable-at old all xs k x a b n within is f goes = λ h.
     let rest = stmts_of (drop (k + 1) xs) in
     subst (λ ss. AreRunnableStmts ss (intents_in b) rest) (sym goes.scopes)
     (subst (λ is. AreRunnableStmts (behind a.scopes (stmt_view x)) (map reducing_view is) rest) (sym goes.intents) (still_runnable-next old all xs k x a within is f h).1)
@@ -70,7 +70,7 @@ pub still_tops-next : (old : Plan) (all : Stmts Text) (xs : List Stmt) (k : ℕ)
     → StillTops old all a (stmts_of (drop k xs)) → StillTops old all a (Then (stmt_view x) (stmts_of (drop (k + 1) xs)))
 still_tops-next old all xs k x a within is f = subst (λ ts. StillTops old all a (stmts_of ts)) (drop-at xs k x within is) f
 
-pub still_tops-at : (old : Plan) (all : Stmts Text) (xs : List Stmt) (k : ℕ) (x : Stmt) (a b : Plan) → k < length xs → x ≡ get_or xs k x
-    → StillTops old all a (stmts_of (drop k xs)) → Goes a b (behind a.scopes (stmt_view x)) → StillTops old all b (stmts_of (drop (k + 1) xs))
-still_tops-at old all xs k x a b within is f goes = λ h.
+pub still_tops-at : (old : Plan) (all : Stmts Text) (xs : List Stmt) (k : ℕ) (x : Stmt) (a b : Plan) (n : ℕ) → k < length xs → x ≡ get_or xs k x
+    → StillTops old all a (stmts_of (drop k xs)) → Goes a b (behind a.scopes (stmt_view x)) n → StillTops old all b (stmts_of (drop (k + 1) xs))
+still_tops-at old all xs k x a b n within is f goes = λ h.
     subst (λ ss. AreRunnableTops ss (stmts_of (drop (k + 1) xs))) (sym goes.scopes) (still_tops-next old all xs k x a within is f h).1

@@ -14,7 +14,7 @@ use Rattle.dpl_rules.specs.Loops.{LoopWord, ForWord, ForallWord, CoforallWord, i
 use Rattle.dpl_rules.specs.Breaches.{top}
 use Rattle.dpl_memory.specs.Resolved.{text_of}
 use Rattle.dpl_typer.specs.Sights.{bound_in}
-use Rattle.dpl_planner.specs.Bounds.{loop_variable, bound_declare, bound_target, bound_others, bound_variables, loop_type, bound_stmt, bound_body, bound_stmts, bound_else, bound_program}
+use Rattle.dpl_runnable.specs.Bounds.{loop_variable, bound_declare, bound_target, bound_others, bound_variables, loop_type, bound_stmt, bound_body, bound_stmts, bound_else, bound_program}
 
 -- what is made of two parts that are alike is alike
 pub both : {A B C : Type 0} (make : A → B → C) {a c : A} {b d : B} → a ≡ c → b ≡ d → make a b ≡ make c d

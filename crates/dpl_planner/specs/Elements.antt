@@ -1,6 +1,5 @@
 -- What arrays are given: each element of a whole array what is evaluated at its index, or one element a value.
 -- An array's name has its place in either, since a fault may tell it.
-use Rattle.std.specs.Prelude.{◌≡◌, Some}
 use Rattle.dpl_syntax.specs.declared.place.Place.{Place}
 use Rattle.dpl_language.specs.Tree.{Placed, Assign, Kind, IntKind, BoolKind, ExprTree, Exprs, ItemTree, Whole, Element, Square, StmtTree, Assigned}
 use Rattle.dpl_language.specs.Arithmetic.{assign_divides}
@@ -10,15 +9,10 @@ use Rattle.dpl_tree.specs.declared.statement.Element.{Element as ElementNode}
 use Rattle.dpl_tree.specs.declared.statement.AssignSign.{AssignSign}
 use Rattle.dpl_tree.specs.View.{name_view, exprs_view, item_view}
 use Rattle.dpl_tree.specs.Statements.{sign_view}
-use Rattle.dpl_rules.specs.Types.{ValueType}
-use Rattle.dpl_rules.specs.Sights.{Scopes}
-use Rattle.dpl_rules.specs.Expressions.{item_type}
 use Rattle.dpl_lowered.specs.Shapes.{nowhere, kept}
 use Rattle.dpl_lowered.specs.LoweredExpressions.{EachTurn}
 use Rattle.dpl_memory.specs.Memory.{Variable}
 use Rattle.dpl_nodes.specs.Typed.{promoted_int, promoted_truth}
-use Rattle.dpl_typer.specs.declared.make.Typed.{Typed}
-use Rattle.dpl_typer.specs.Leaves.{IsOfType}
 use Rattle.dpl_planner.specs.declared.elements.Elements.{Elements}
 use Rattle.dpl_planner.specs.declared.elements.Elements.TheVariants as elements
 
@@ -42,10 +36,3 @@ element_changed x es op at item =
 abbrev pub element_tree : ElementNode → AssignSign → ItemNode → Place → StmtTree Text
 element_tree target sign value semicolon =
     Assigned (Element (name_view target.name) target.shape target.from (exprs_view target.exprs) target.upto) (sign_view sign) (item_view value) semicolon
-
--- an item has a type, and what is made of it is of that type
-abbrev pub HasItemType : Scopes → ItemTree Text → Type 0
-HasItemType ss i = (u : ValueType) × (item_type ss i ≡ Some u)
-
-abbrev pub IsValued : Scopes → ItemTree Text → Typed → Type 0
-IsValued ss i t = (u : ValueType) × (item_type ss i ≡ Some u) × IsOfType t (Some u)

@@ -1,21 +1,19 @@
 -- What is made of the parts of a statement: right sides, initial values, arguments, a loop's head.
--- Each is the lowered tree of the part with its names resolved, and fits where they are in sight.
+-- Each is the lowered tree of the part with its names resolved.
 use Rattle.std.specs.Borrow.{Bor}
-use Rattle.std.specs.Prelude.{◌≡◌, ◌≤◌, ℕ, nat_le, ◌&&◌, true, false, List, [], ◌∷◌, ◌++◌, map, option_map, Option, Some, None}
+use Rattle.std.specs.Prelude.{◌≡◌, ℕ, nat_le, ◌&&◌, true, false, List, [], ◌∷◌, ◌++◌, map, option_map, Option, Some, None}
 use Rattle.dpl_syntax.specs.declared.place.Place.{Place}
-use Rattle.dpl_language.specs.Tree.{Placed, Op, Assign, Kind, ExprTree, Named, ItemTree, One, TypedTree, TypeTree, ScalarType, SyncType, DomainType, ArrayType, InitTree, ItemInit, CreateInit, MappedTree, InitialTree, DeclareTree, Whole, StmtTree, Declare, Assigned, ArgumentTree, IntentTree, VariablesTree, OneVariable, ManyVariables}
+use Rattle.dpl_language.specs.Tree.{Placed, Assign, Kind, ExprTree, Named, ItemTree, One, TypedTree, TypeTree, ScalarType, SyncType, DomainType, ArrayType, InitTree, ItemInit, CreateInit, MappedTree, InitialTree, Whole, StmtTree, Declare, Assigned, ArgumentTree, IntentTree, VariablesTree}
 use Rattle.dpl_language.specs.Arithmetic.{assign_divides}
 use Rattle.dpl_language.specs.Names.{Text}
 use Rattle.dpl_language.specs.Declarations.{type_of}
 use Rattle.dpl_agreement.specs.Renamed.{renamed_expr, renamed_item, renamed_typed, renamed_initial, renamed_argument, renamed_variables}
-use Rattle.dpl_agreement.specs.Scopes.{PlainForm, form_by, fits as fits_stmt, fits_type, side_by, fits_initial, suits_declared, fits_arguments}
 use Rattle.dpl_tree.specs.declared.statement.NextArgument.{NextArgument}
 use Rattle.dpl_tree.specs.declared.statement.NextIntent.{NextIntent}
 use Rattle.dpl_tree.specs.Statements.{next_argument_view, next_intent_view}
 use Rattle.dpl_rules.specs.Types.{ValueType, Scalar}
-use Rattle.dpl_rules.specs.Sights.{Scopes, declared_here, origin_in, add, enter}
-use Rattle.dpl_rules.specs.Loops.{variables_of, add_variables, behind}
-use Rattle.dpl_rules.specs.Declarations.{type_given, declared_by}
+use Rattle.dpl_rules.specs.Sights.{Scopes, add, enter}
+use Rattle.dpl_rules.specs.Loops.{variables_of, add_variables}
 use Rattle.dpl_scopes.specs.Slots.{next_slot_in, slot_in}
 use Rattle.dpl_lowered.specs.Known.{may_be_whole}
 use Rattle.dpl_lowered.specs.Shapes.{nowhere, kept, placed}
@@ -23,26 +21,23 @@ use Rattle.dpl_lowered.specs.LoweredExpressions.{Times, Once, lowered_expr, lowe
 use Rattle.dpl_lowered.specs.LoweredStatements.{default_tree, mapped_initial, ranked_type, written_type, tells_name, declared_type, declared_initial, lowered_argument, lowered_variables}
 use Rattle.dpl_words.specs.Words.{IntLeaf, TruthLeaf, RangeLeaf, LocaleLeaf}
 use Rattle.dpl_memory.specs.Memory.{VariableKind, PlainKind, DomainKind, TupleKind, CellKind, ArrayKind, Variable, variable, known_kind, known_variable}
-use Rattle.dpl_memory.specs.Resolved.{Bound, Seen, Start, variable_of, resolving}
+use Rattle.dpl_memory.specs.Resolved.{variable_of}
 use Rattle.dpl_nodes.specs.declared.tree.BoolExpr.{BoolExpr}
 use Rattle.dpl_nodes.specs.declared.step.Argument.{Argument}
 use Rattle.dpl_nodes.specs.declared.step.Names.{Names}
 use Rattle.dpl_nodes.specs.declared.step.Names.TheVariants as names
-use Rattle.dpl_nodes.specs.declared.step.Step.{Step}
 use Rattle.dpl_nodes.specs.Typed.{truth_view, domain_view}
 use Rattle.dpl_nodes.specs.declared.placing.Placing.{Placing}
 use Rattle.dpl_nodes.specs.declared.placing.Placing.TheVariants.{Derived}
-use Rattle.dpl_nodes.specs.Steps.{unplaced_leaf, dimensions, placed_map, placed_type, typed_map, argument_view, names_view, step_view}
+use Rattle.dpl_nodes.specs.Steps.{unplaced_leaf, dimensions, placed_map, placed_type, typed_map, argument_view, names_view}
 use Rattle.dpl_typer.specs.declared.make.Typed.{Typed}
 use Rattle.dpl_typer.specs.declared.make.Typed.TheVariants as typed
-use Rattle.dpl_typer.specs.Makers.{typed_item, kind_of, is_promoted}
-use Rattle.dpl_typer.specs.Leaves.{value_kind, kind_in, leaf_in, IsFound}
-use Rattle.dpl_typer.specs.Shapes.{shape_of, IsTakenOf, IsTaken}
-use Rattle.dpl_typer.specs.Simple.{IsSimple, IsSimpleItem}
+use Rattle.dpl_typer.specs.Makers.{typed_item, kind_of}
+use Rattle.dpl_typer.specs.Leaves.{value_kind, kind_in, leaf_in}
 use Rattle.dpl_typer.specs.Elaborated.{IsCreated}
-use Rattle.dpl_typer.specs.Sights.{bound_in, AreKnownScopes}
+use Rattle.dpl_typer.specs.Sights.{bound_in}
 use Rattle.dpl_placing.specs.Roots.{IsPlacingOf}
-use Rattle.dpl_runnable.specs.Runnable.{created_type}
+use Rattle.dpl_runnable.specs.InSight.{bound_typed, bound_initial}
 use Rattle.dpl_planner.specs.declared.progress.Plan.{Plan}
 use Rattle.dpl_planner.specs.declared.declaration.WrittenKind.{WrittenKind}
 use Rattle.dpl_planner.specs.declared.declaration.WrittenKind.TheVariants as kinds
@@ -50,23 +45,13 @@ use Rattle.dpl_planner.specs.declared.declaration.Beginning.{Beginning}
 use Rattle.dpl_planner.specs.declared.declaration.Beginning.TheVariants as beginning
 use Rattle.dpl_planner.specs.declared.loops.Iterable.{Iterable}
 use Rattle.dpl_planner.specs.declared.loops.Iterable.TheVariants as over
-use Rattle.dpl_planner.specs.Bounds.{with_arrays, bound_new, loop_variable, bound_variables, bound_stmt}
-use Rattle.dpl_planner.specs.Given.{IsGiven}
-use Rattle.dpl_planner.specs.Plans.{seen_of, seen_in, Stands, stmt_leaves}
+use Rattle.dpl_runnable.specs.Bounds.{with_arrays, loop_variable, bound_variables, slots_each}
 
 -- an item, elaborated
-pub record IsItem (ss : Scopes) (i : ItemTree Text) (t : Typed) : Type 0 where
-  pub node : (m : Times) → typed_item m t ≡ lowered_item known_variable m (renamed_item (leaf_in ss) i)
-  pub found : IsSimpleItem (IsFound ss) i
+abbrev pub IsItem : Scopes → ItemTree Text → Typed → Type 0
+IsItem ss i t = (m : Times) → typed_item m t ≡ lowered_item known_variable m (renamed_item (leaf_in ss) i)
 
--- KINDS: what one slot of words, ranges or domains holds and a declaration gives a name; and what of that is assigned
-abbrev pub IsSingleKind : VariableKind → Type 0
-IsSingleKind (PlainKind k) = Unit {0}
-IsSingleKind DomainKind = Unit {0}
-IsSingleKind TupleKind = ⊥
-IsSingleKind (ArrayKind k) = ⊥
-IsSingleKind (CellKind c) = ⊥
-
+-- KINDS that are assigned, but for arrays
 abbrev pub IsChangedKind : VariableKind → Type 0
 IsChangedKind (PlainKind IntLeaf) = Unit {0}
 IsChangedKind (PlainKind TruthLeaf) = Unit {0}
@@ -82,21 +67,6 @@ abbrev pub changed_to : Scopes → Place → VariableKind → ℕ → Assign →
 changed_to ss at k slot op sign item =
     Assigned (Whole (placed (may_be_whole (known_kind k)) (record { at = at; name = with_arrays ss (variable k slot) })))
     (record { at = kept (assign_divides op) sign; op = op; last = nowhere }) item nowhere
-
--- of a range, a domain and a tuple, a name of a type may be given what the item gives; of numbers and truth values each may
-abbrev pub IsTakenBy : VariableKind → Scopes → ItemTree Text → ValueType → Type 0
-IsTakenBy (PlainKind IntLeaf) ss i t = Unit {0}
-IsTakenBy (PlainKind TruthLeaf) ss i t = Unit {0}
-IsTakenBy (PlainKind RangeLeaf) ss i t = IsTaken ss i t
-IsTakenBy (PlainKind LocaleLeaf) ss i t = IsTaken ss i t
-IsTakenBy DomainKind ss i t = IsTaken ss i t
-IsTakenBy TupleKind ss i t = IsTaken ss i t
-IsTakenBy (ArrayKind k) ss i t = Unit {0}
-IsTakenBy (CellKind c) ss i t = IsTaken ss i t
-
-abbrev pub IsTakenIn : VariableKind → Scopes → ItemTree Text → Option ValueType → Type 0
-IsTakenIn k ss i None = ⊥
-IsTakenIn k ss i (Some t) = IsTakenBy k ss i t
 
 -- DECLARATIONS: a type that is written, or none
 abbrev pub IsWrittenType : Option (TypeTree Text) → WrittenKind → Type 0
@@ -187,59 +157,26 @@ BeginsByDefault (kinds.Scalar k) (beginning.Empty rank) = ⊥
 BeginsByDefault (kinds.Domain rank) (beginning.Value t) = ⊥
 BeginsByDefault (kinds.Domain rank) (beginning.Empty other) = other ≡ rank
 
--- an initial value, which a name of the type may be given: an item with a map or without one, or a created domain
-abbrev pub IsGivenInit : Scopes → InitTree Text → ValueType → Typed → Type 0
-IsGivenInit ss (ItemInit i mapped) t value = IsItem ss i value × IsTakenBy (kind_of value) ss i t
-IsGivenInit ss (CreateInit c) t value = IsCreated ss c.from c.items value × IsTakenOf (created_type ss c) t
+-- an initial value: an item with a map or without one, or a created domain
+abbrev pub IsGivenInit : Scopes → InitTree Text → Typed → Type 0
+IsGivenInit ss (ItemInit i mapped) value = IsItem ss i value
+IsGivenInit ss (CreateInit c) value = IsCreated ss c.from c.items value
 
-abbrev pub bound_typed : Scopes → Option (TypedTree Text) → Option (TypedTree Bound)
-bound_typed ss t = option_map (renamed_typed (bound_in ss)) t
-
-abbrev pub bound_initial : Scopes → Option (InitialTree Text) → Option (InitialTree Bound)
-bound_initial ss i = option_map (renamed_initial (bound_in ss)) i
-
--- the name of such a type is a plain variable's
-pub record IsPlainTyped (ss : Scopes) (t : Option (TypedTree Text)) : Type 0 where
+-- What a variable begins with: the initial value, which is written or the default of its type. A plain variable's type goes where a
+-- value is written, and a domain's says no more than its map; and no place of a fault is told of its name.
+pub record IsInitial (ss : Scopes) (t : Option (TypedTree Text)) (i : Option (InitialTree Text)) (b : Beginning) : Type 0 where
   pub untold : tells_name (type_of (option_map (renamed_typed variable_of) (bound_typed ss t))) ≡ false
-  pub sort : form_by (type_of (bound_typed ss t)) ≡ PlainForm
-  pub fits_here : (start : Start) (g : Seen) → fits_type (resolving start) (type_of (bound_typed ss t)) g
-
--- What a variable of a declared type begins with: the initial value, which is written or the default of its type. A plain variable's
--- type goes where a value is written, and a domain's says no more than its map.
-pub record IsInitial (ss : Scopes) (t : Option (TypedTree Text)) (i : Option (InitialTree Text)) (declared : ValueType) (b : Beginning) : Type 0 where
-  pub type : IsPlainTyped ss t
   pub typed : (p : Placing) → IsPlacingOf ss (type_of t) i p → IsPlacedWith b p
       → option_map written_type (declared_type known_variable (type_of (option_map (renamed_typed variable_of) (bound_typed ss t))) (option_map (renamed_initial variable_of) (bound_initial ss i))) ≡ begun_type b p
   pub node : (p : Placing) → IsPlacingOf ss (type_of t) i p → IsPlacedWith b p
       → declared_initial known_variable (type_of (option_map (renamed_typed variable_of) (bound_typed ss t))) (option_map (renamed_initial variable_of) (bound_initial ss i)) ≡ begun_value b p
-  pub initial : (start : Start) (is : List (Bound × Op)) → AreKnownScopes ss
-      → fits_initial (resolving start) (side_by (resolving start) (type_of (bound_typed ss t))) (bound_initial ss i) (seen_of ss is)
-  pub suits : (start : Start) (is : List (Bound × Op)) (x : Bound) → AreKnownScopes ss → is_promoted (begun_kind b) ≡ false → x.variable.kind ≡ begun_kind b → x.shape ≡ shape_of declared
-      → value_kind declared ≡ Some (begun_kind b) → type_given ss (origin_in ss x.text) (type_of t) i ≡ Some declared
-      → suits_declared (resolving start) x (type_of (bound_typed ss t)) (bound_initial ss i) (seen_of ss is)
-
--- a `config const` is set alike by its text and by its slot
-abbrev pub IsOwedBy : Option Place → Start → Bound → Type 0
-IsOwedBy None start x = Unit {0}
-IsOwedBy (Some at) start x = IsGiven start x
-
-abbrev pub IsOwed : Start → Scopes → DeclareTree Text → Type 0
-IsOwed start ss d = IsOwedBy d.config start (bound_new ss (declared_by ss d))
-
--- a declaration, planned
-abbrev pub PlansDeclare : Plan → Plan → DeclareTree Text → Step → Type 0
-PlansDeclare old new d step =
-    Stands old new (behind old.scopes (Declare d)) (stmt_leaves old.scopes (Declare d) ≡ step_view step)
-    (λ start. IsOwed start old.scopes d → fits_stmt (resolving start) (bound_stmt old.scopes (Declare d)) (seen_in old))
 
 -- ARGUMENTS: a whole array by its name
 abbrev pub IsWholeArray : Scopes → ExprTree Text → Kind → ℕ → Type 0
 IsWholeArray ss e k slot = (x : Placed Text) × (e ≡ Named x) × (kind_in ss x.name ≡ Some (ArrayKind k)) × (slot_in ss x.name ≡ Some slot)
 
-pub record IsArgument (ss : Scopes) (a : ArgumentTree Text) (b : Argument) : Type 0 where
-  pub node : lowered_argument known_variable (renamed_argument variable_of (renamed_argument (bound_in ss) a)) ≡ argument_view b
-  pub fits_before : (start : Start) (is : List (Bound × Op)) (rest : List (ArgumentTree Bound)) → AreKnownScopes ss
-      → fits_arguments (resolving start) rest (seen_of ss is) → fits_arguments (resolving start) (renamed_argument (bound_in ss) a ∷ rest) (seen_of ss is)
+abbrev pub IsArgument : Scopes → ArgumentTree Text → Argument → Type 0
+IsArgument ss a b = lowered_argument known_variable (renamed_argument variable_of (renamed_argument (bound_in ss) a)) ≡ argument_view b
 
 abbrev pub AreArguments : Scopes → List (ArgumentTree Text) → List Argument → Type 0
 AreArguments ss [] [] = Unit {0}
@@ -255,28 +192,7 @@ abbrev pub StillArguments : Scopes → List (ArgumentTree Text) → List (Argume
 StillArguments ss all left so_far = (more : List Argument) → AreArguments ss left more → AreArguments ss all (so_far ++ more)
 
 -- LOOPS AND CONDITIONS
--- a loop's variables are ints, or one that is a tuple
-abbrev pub IsTurnKind : Option VariableKind → Type 0
-IsTurnKind None = ⊥
-IsTurnKind (Some (PlainKind IntLeaf)) = Unit {0}
-IsTurnKind (Some (PlainKind TruthLeaf)) = ⊥
-IsTurnKind (Some (PlainKind RangeLeaf)) = ⊥
-IsTurnKind (Some (PlainKind LocaleLeaf)) = ⊥
-IsTurnKind (Some DomainKind) = ⊥
-IsTurnKind (Some TupleKind) = Unit {0}
-IsTurnKind (Some (ArrayKind k)) = ⊥
-IsTurnKind (Some (CellKind k)) = ⊥
-
-abbrev pub AreTurnKinds : VariablesTree Text → Option VariableKind → Type 0
-AreTurnKinds (OneVariable x) o = IsTurnKind o
-AreTurnKinds (ManyVariables from xs upto) o = o ≡ Some (PlainKind IntLeaf)
-
--- each is new in the scope, behind those before it
-abbrev pub AreFresh : Option ValueType → List (Placed Text) → Scopes → Type 0
-AreFresh t [] ss = Unit {0}
-AreFresh t (x ∷ xs) ss = (declared_here ss x.name ≡ false) × AreFresh t xs (add (loop_variable t ss x.name) ss)
-
--- their slots, one behind the other
+-- the slots of a loop's variables, one behind the other
 abbrev pub slots_from : Option ValueType → List (Placed Text) → Scopes → List ℕ
 slots_from t [] ss = []
 slots_from t (x ∷ xs) ss = next_slot_in ss ∷ slots_from t xs (add (loop_variable t ss x.name) ss)
@@ -285,9 +201,7 @@ slots_from t (x ∷ xs) ss = next_slot_in ss ∷ slots_from t xs (add (loop_vari
 pub record AreDeclared (t : ValueType) (xs : List (Placed Text)) (old new : Plan) (made : List ℕ) : Type 0 where
   pub scopes : new.scopes ≡ add_variables (Some t) xs old.scopes
   pub places : made ≡ slots_from (Some t) xs old.scopes
-  pub fresh : AreFresh (Some t) xs old.scopes
-  pub below : next_slot_in old.scopes ≤ old.slots → next_slot_in new.scopes ≤ new.slots
-  pub slots : old.slots ≤ new.slots
+  pub slots : new.slots ≡ slots_each (Some t) xs old.scopes old.slots
   pub intents : new.intents.items ≡ old.intents.items
 
 -- what is planned of those so far and of those that are left is planned of all
@@ -302,9 +216,8 @@ over_typed (over.Domain d) = typed.Domain d
 abbrev pub intents_among : List NextIntent → List (IntentTree Text)
 intents_among xs = map (λ x. x.part) (map next_intent_view xs)
 
-pub record IsCondition (ss : Scopes) (e : ExprTree Text) (b : Bor BoolExpr) : Type 0 where
-  pub node : truth_view b.now ≡ lowered_expr known_variable Once (renamed_expr (leaf_in ss) e)
-  pub found : IsSimple (IsFound ss) e
+abbrev pub IsCondition : Scopes → ExprTree Text → Bor BoolExpr → Type 0
+IsCondition ss e b = truth_view b.now ≡ lowered_expr known_variable Once (renamed_expr (leaf_in ss) e)
 
 -- over a range a loop has one variable, which is an int
 abbrev pub IsIntOver : Iterable → Names → Type 0
@@ -317,8 +230,5 @@ IsIntOver (over.Domain d) n = Unit {0}
 pub record IsOpened (old new : Plan) (t : ValueType) (xs : VariablesTree Text) (names : Names) : Type 0 where
   pub scopes : new.scopes ≡ add_variables (Some t) (variables_of xs) (enter old.scopes)
   pub node : names_view names ≡ lowered_variables (renamed_variables variable_of (bound_variables (Some t) (enter old.scopes) xs))
-  pub kinds : AreTurnKinds xs (value_kind t)
-  pub fresh : AreFresh (Some t) (variables_of xs) (enter old.scopes)
-  pub below : next_slot_in new.scopes ≤ new.slots
-  pub slots : old.slots ≤ new.slots
+  pub slots : new.slots ≡ slots_each (Some t) (variables_of xs) (enter old.scopes) old.slots
   pub intents : new.intents.items ≡ old.intents.items

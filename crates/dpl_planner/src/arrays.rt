@@ -2,7 +2,7 @@
 // A domain's bare name stands as it is between the brackets, since the array changes with it; what only looks like one doesn't.
 
 ghost use Rattle.std.specs.Prelude.{◌≡◌, ◌≢◌, false, is_some, [], Option, IfOk, Err, Some, None};
-ghost use Rattle.dpl_language.specs.Tree.{FirstItem, NoItems, One, MappedTree, ItemInit, ArrayType as ArrayTypeTree};
+ghost use Rattle.dpl_language.specs.Tree.{FirstItem, NoItems, One, MappedTree, ItemInit, ArrayType as ArrayTypeTree, Declare as DeclareTree};
 ghost use Rattle.dpl_language.specs.Names.{Text};
 ghost use Rattle.dpl_language.specs.Phrases.{item_over};
 ghost use Rattle.dpl_language.specs.Declarations.{type_of};
@@ -25,9 +25,9 @@ ghost use Rattle.dpl_planner.specs.Elements.{elements_view, elements_kind};
 ghost use Rattle.dpl_typer.specs.Elaborated.{AreMany, HasNoDomain};
 ghost use Rattle.dpl_typer.specs.Where.{WhereSimpleItem, WhereSimpleItems};
 ghost use Rattle.dpl_planner.specs.Arrays.{between, IsOver, IsArrayInitial, HasElements, IsArrayKind};
-ghost use Rattle.dpl_planner.specs.Parts.{PlansDeclare};
+ghost use Rattle.dpl_planner.specs.Plans.{PlansStmt};
 
-use crate::elements::{Elements, array_kind, given_elements, valued};
+use crate::elements::{Elements, array_kind, given_elements};
 use crate::progress::{Plan, node, spot};
 use dpl_forms::declaration::declaration;
 use dpl_nodes::step::{DeclaredOver as Between, Initial as Begun};
@@ -199,7 +199,7 @@ fn given_item<'t>(
     ensures ill_typed { (result ≡ Err stop.IllTyped) → IsNear equals → (k : VariableKind) → IsItemOf scopes.now (item_view written.now) k
         → IsGivenTo (ArrayKind kind) k → ⊥ }
 {
-    let value = valued(arena, scopes, written)?;
+    let value = item(arena, scopes, written)?;
     let elements = given_elements(arena, kind, value)?;
     let at = spot(arena, equals)?;
     Ok(begun(at, elements))
@@ -287,15 +287,14 @@ fn array_type<'s>(declared: Declared<'s>) -> Result<ValueType<'s>, NoNode>
 /// A declaration of an array, whose name is in sight behind it.
 ///
 /// # Errors
-/// Out of memory; a name that its scope has; what is over neither a domain nor ranges; elements of another kind; a `config`.
+/// Out of memory; what is over neither a domain nor ranges; elements of another kind; a `config`.
 pub(crate) fn declare_array<'s, 't>(
     plan: &mut Plan<'s, 't>,
     written: &Declare<'s>,
     array: &ArrayType<'s>,
 ) -> Result<Step<'t>, NoNode>
     requires { type_of (optional written_type_view written.now.typed) ≡ Some (ArrayTypeTree (array_type_view array.now)) }
-    ensures plans { IfOk result (λ step. PlansDeclare plan.old plan.new (declare_view written.now) step) }
-    ensures config { IfOk result (λ step. (declare_view written.now).config ≡ None) }
+    ensures plans { IfOk result (λ step. PlansStmt plan.old plan.new (DeclareTree (declare_view written.now)) step) }
     ensures ill_typed { (result ≡ Err stop.IllTyped) → IsRunnableDeclare plan.old.scopes (declare_view written.now) → ⊥ }
 {
     if written.config.is_some() {

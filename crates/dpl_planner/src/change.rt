@@ -1,42 +1,37 @@
 // Assignments: each to a variable in sight, with an operator that takes its kind.
-// `reduce=` is by the operator of the forall around, which the name and its slot tell alike.
 
-ghost use Rattle.std.specs.Prelude.{◌≡◌, ◌≢◌, true, false, OnOk, IfOk, Err, Some, map};
+ghost use Rattle.std.specs.Prelude.{◌≡◌, ◌≢◌, true, false, IfOk, Err, Some};
 ghost use Rattle.dpl_language.specs.Tree.{Kind, Whole, Assigned as AssignedTree};
 ghost use Rattle.dpl_language.specs.Arithmetic.{assign_divides};
-ghost use Rattle.dpl_language.specs.Names.{paired};
-ghost use Rattle.dpl_agreement.specs.Renamed.{renamed_intents};
 ghost use Rattle.dpl_tree.specs.View.{name_view, item_view};
 ghost use Rattle.dpl_tree.specs.Statements.{target_view, sign_view};
-ghost use Rattle.dpl_rules.specs.Types.{ValueType as ValueTypeTree, range_of};
 ghost use Rattle.dpl_scopes.specs.Types.{type_view, of_type};
 ghost use Rattle.dpl_scopes.specs.Slots.{slot_in};
 ghost use Rattle.dpl_lowered.specs.Shapes.{kept};
 ghost use Rattle.dpl_lowered.specs.LoweredExpressions.{Once};
-ghost use Rattle.dpl_words.specs.Words.{TruthLeaf, intent_at, takes, is_logical as is_logical_of};
-ghost use Rattle.dpl_memory.specs.Memory.{DomainKind, ArrayKind, variable, int_leaf, truth_leaf, intents_by_slot};
-ghost use Rattle.dpl_memory.specs.Resolved.{text_of, variable_of, kind_takes, KindCombines, IntentResolves};
+ghost use Rattle.dpl_words.specs.Words.{TruthLeaf, takes};
+ghost use Rattle.dpl_memory.specs.Memory.{DomainKind, ArrayKind, variable, int_leaf, truth_leaf};
+ghost use Rattle.dpl_memory.specs.Resolved.{kind_takes};
 ghost use Rattle.dpl_nodes.specs.Spots.{IsNear};
 ghost use Rattle.dpl_typer.specs.Makers.{kind_of, typed_item};
 ghost use Rattle.dpl_nodes.specs.declared.stop.NoNode.TheVariants as stop;
 ghost use Rattle.dpl_typer.specs.declared.make.Typed.TheVariants as typed;
 ghost use Rattle.dpl_nodes.specs.Steps.{step_view, assigned_to as assigns};
 ghost use Rattle.dpl_typer.specs.Leaves.{value_kind, type_in, kind_in};
-ghost use Rattle.dpl_typer.specs.Shapes.{takes_shape as takes_shape_of, IsTakenOf, IsTaken};
-ghost use Rattle.dpl_runnable.specs.Runnable.{AreToldAlike, IsReducedBy, IsRunnableStmt};
-ghost use Rattle.dpl_planner.specs.Parts.{IsSingleKind, IsChangedKind, IsTakenBy, IsTakenIn, changed_to};
-ghost use Rattle.dpl_planner.specs.Plans.{reducing_view, intents_in, seen_in, PlansStmt};
+ghost use Rattle.dpl_runnable.specs.Runnable.{IsRunnableStmt};
+ghost use Rattle.dpl_runnable.specs.InSight.{IsSingleKind};
+ghost use Rattle.dpl_planner.specs.Parts.{IsChangedKind, changed_to};
+ghost use Rattle.dpl_planner.specs.Plans.{intents_in, PlansStmt};
 
 use crate::elements::{array_named, set_array, set_element};
 use crate::overs::arrays_over;
-use crate::progress::{Plan, Reducing, node, spot};
+use crate::progress::{Plan, node, spot};
 use dpl_nodes::step::DomainName;
 use dpl_nodes::{BoolExpr, DomainExpr, IntDeed, IntExpr, NoNode, Step, TruthDeed, TruthTarget};
 use dpl_scopes::{Scopes, ValueType};
 use dpl_syntax::Place;
-use dpl_tree::{Arena, Assign, AssignSign, Assignment, Item, Name, Op, ScalarKind, Target};
+use dpl_tree::{Arena, Assign, AssignSign, Assignment, Item, Name, ScalarKind, Target};
 use dpl_typer::{Typed, item};
-use dpl_typing::expression::item as item_type;
 
 /// Whether a variable of a type holds the values of an expression.
 pub(crate) fn holds(t: ValueType<'_>, value: Typed<'_>) -> bool
@@ -70,91 +65,6 @@ pub(crate) fn is_domain(t: ValueType<'_>) -> bool
     }
 }
 
-// Whether the text strides a range, where something is one.
-fn strides(t: ValueType<'_>) -> Option<bool>
-    ensures { result ≡ range_of (type_view t.entry) }
-{
-    match t {
-        ValueType::Range { strided } => Some(strided),
-        ValueType::Domain { .. }
-        | ValueType::Scalar(_)
-        | ValueType::Array(_, _)
-        | ValueType::Promoted(_, _)
-        | ValueType::Tuple(_)
-        | ValueType::Locale
-        | ValueType::AllLocales
-        | ValueType::Cell(_) => None,
-    }
-}
-
-// Whether a name of a type may be given a value of another.
-fn takes_shape(t: ValueType<'_>, given: ValueType<'_>) -> bool
-    ensures { result ≡ takes_shape_of (type_view t.entry) (type_view given.entry) }
-{
-    match t {
-        ValueType::Scalar(_) | ValueType::Array(_, _) => true,
-        ValueType::Range { strided } => match strides(given) {
-            Some(other) => strided || !other,
-            None => false,
-        },
-        ValueType::Domain { rank, strided } => match given.domain() {
-            Some((other_rank, other)) => other_rank == rank && (strided || !other),
-            None => false,
-        },
-        ValueType::Promoted(_, _)
-        | ValueType::Tuple(_)
-        | ValueType::Locale
-        | ValueType::AllLocales
-        | ValueType::Cell(_) => false,
-    }
-}
-
-/// What is of a type may be given to a name of another one.
-///
-/// # Errors
-/// It has no type, or one of another shape.
-pub(crate) fn taken_type(t: ValueType<'_>, given: Option<ValueType<'_>>) -> Result<(), NoNode>
-    ensures taken { OnOk result (IsTakenOf (of_type given.entry) (type_view t.entry)) }
-    ensures ill_typed { (result ≡ Err stop.IllTyped) → IsTakenOf (of_type given.entry) (type_view t.entry) → ⊥ }
-{
-    match given {
-        Some(given) => {
-            if takes_shape(t, given) {
-                Ok(())
-            } else {
-                Err(NoNode::IllTyped)
-            }
-        }
-        None => Err(NoNode::IllTyped),
-    }
-}
-
-/// A range, a domain and a tuple are of a shape that a name of a type takes: as many dimensions, and strided only where they may be.
-///
-/// # Errors
-/// Out of memory; another shape.
-pub(crate) fn shaped(
-    arena: Arena<'_>,
-    scopes: &Scopes<'_>,
-    t: ValueType<'_>,
-    written: &Item<'_>,
-    value: Typed<'_>,
-) -> Result<(), NoNode>
-    ensures taken { OnOk result (IsTakenBy (kind_of value.entry) scopes.now (item_view written.now) (type_view t.entry)) }
-    ensures ill_typed { (result ≡ Err stop.IllTyped) → IsTaken scopes.now (item_view written.now) (type_view t.entry) → ⊥ }
-{
-    match value {
-        Typed::Int(_) | Typed::Truth(_) | Typed::Ints(_) | Typed::Truths(_) => Ok(()),
-        Typed::Range(_) | Typed::Domain(_) | Typed::Tuple(_) => {
-            let mut first = None;
-            match item_type(arena.alloc(), scopes, written, &mut first) {
-                Ok(given) => taken_type(t, given),
-                Err(_) => Err(NoNode::Memory),
-            }
-        }
-    }
-}
-
 /// The type of a name's declaration.
 pub(crate) fn declared_type<'s>(scopes: &Scopes<'s>, name: &[u8]) -> Option<ValueType<'s>>
     ensures { of_type result ≡ type_in scopes.now name.now }
@@ -179,23 +89,6 @@ fn variable(scopes: &Scopes<'_>, name: &[u8], value: Typed<'_>) -> Result<usize,
     }
     match scopes.slot(name) {
         Some(slot) => Ok(slot),
-        None => Err(NoNode::IllTyped),
-    }
-}
-
-// What a name in sight is given is of its shape.
-fn taken(
-    plan: &Plan<'_, '_>,
-    name: &[u8],
-    written: &Item<'_>,
-    value: Typed<'_>,
-) -> Result<(), NoNode>
-    ensures taken { OnOk result (IsTakenIn (kind_of value.entry) plan.now.scopes (item_view written.now) (type_in plan.now.scopes name.now)) }
-    ensures ill_typed { (result ≡ Err stop.IllTyped) → (t : ValueTypeTree) → (type_in plan.now.scopes name.now ≡ Some t)
-        → IsTaken plan.now.scopes (item_view written.now) t → ⊥ }
-{
-    match declared_type(&plan.scopes, name) {
-        Some(t) => shaped(plan.arena, &plan.scopes, t, written, value),
         None => Err(NoNode::IllTyped),
     }
 }
@@ -232,7 +125,6 @@ fn of_int<'t>(
 fn of_truth<'t>(sign: AssignSign, slot: usize, e: &'t BoolExpr<'t>) -> Result<Step<'t>, NoNode>
     ensures node { IfOk result (λ s. step_view s
         ≡ assigns (truth_leaf slot) sign.op (kept (assign_divides sign.op) sign.at) (typed_item Once (typed.Truth e.entry))) }
-    ensures takes { IfOk result (λ s. takes TruthLeaf sign.op ≡ true) }
     ensures ill_typed { (result ≡ Err stop.IllTyped) → takes TruthLeaf sign.op ≡ false }
 {
     match sign.op {
@@ -256,7 +148,6 @@ fn of_domain<'t>(
     e: &'t DomainExpr<'t>,
 ) -> Result<Step<'t>, NoNode>
     ensures node { IfOk result (λ s. step_view s ≡ changed_to scopes.now at DomainKind slot sign.op sign.at (typed_item Once (typed.Domain e.entry))) }
-    ensures takes { IfOk result (λ s. kind_takes DomainKind sign.op ≡ true) }
     ensures ill_typed { (result ≡ Err stop.IllTyped) → kind_takes DomainKind sign.op ≡ true → IsNear at → ⊥ }
 {
     match sign.op {
@@ -285,7 +176,6 @@ fn change<'t>(
     value: Typed<'t>,
 ) -> Result<Step<'t>, NoNode>
     ensures node { IfOk result (λ s. step_view s ≡ changed_to scopes.now at (kind_of value.entry) slot sign.op sign.at (typed_item Once value.entry)) }
-    ensures takes { IfOk result (λ s. kind_takes (kind_of value.entry) sign.op ≡ true) }
     ensures kind { IfOk result (λ s. IsChangedKind (kind_of value.entry)) }
     ensures ill_typed { (result ≡ Err stop.IllTyped) → IsChangedKind (kind_of value.entry) → kind_takes (kind_of value.entry) sign.op ≡ true → IsNear sign.at
         → IsNear at → ⊥ }
@@ -296,82 +186,6 @@ fn change<'t>(
         Typed::Domain(e) => of_domain(arena, scopes, at, sign, slot, e),
         Typed::Range(_) | Typed::Tuple(_) | Typed::Ints(_) | Typed::Truths(_) => {
             Err(NoNode::IllTyped)
-        }
-    }
-}
-
-// The operator by which a variable is reduced, told alike by its name and by its slot.
-fn reducing(intents: &[Reducing<'_>], name: &[u8], slot: usize) -> Result<Option<Op>, NoNode>
-    ensures named { IfOk result (λ op. paired name.now (renamed_intents text_of (map reducing_view intents.now)) ≡ op) }
-    ensures slotted { IfOk result (λ op. intent_at slot (intents_by_slot (renamed_intents variable_of (map reducing_view intents.now))) ≡ op) }
-    ensures ill_typed { (result ≡ Err stop.IllTyped) → AreToldAlike name.now slot (map reducing_view intents.now) → ⊥ }
-{
-    for next in intents {
-        let by_name = name == next.name;
-        let by_slot = slot == next.intent.slot;
-        if by_name && by_slot {
-            return Ok(Some(next.intent.op));
-        }
-        if by_name || by_slot {
-            return Err(NoNode::IllTyped);
-        }
-    }
-    Ok(None)
-}
-
-// `&&` and `||` put truth values together.
-fn is_logical(op: Op) -> bool
-    ensures { result ≡ is_logical_of op }
-{
-    match op {
-        Op::AllOf | Op::AnyOf => true,
-        Op::Sum | Op::Product | Op::BitAnd | Op::BitOr | Op::BitXor | Op::Least | Op::Greatest =>
-            false,
-    }
-}
-
-// Whether an operator puts the values of an expression together; without one there is nothing to put together.
-fn combines(value: Typed<'_>, op: Option<Op>) -> bool
-    ensures yes { (result ≡ true) → KindCombines (kind_of value.entry) op }
-    ensures no { (result ≡ false) → KindCombines (kind_of value.entry) op → ⊥ }
-{
-    match op {
-        None => true,
-        Some(op) => match value {
-            Typed::Int(_) => !is_logical(op),
-            Typed::Truth(_) => is_logical(op),
-            Typed::Range(_) => false,
-            Typed::Domain(_) | Typed::Tuple(_) | Typed::Ints(_) | Typed::Truths(_) => true,
-        },
-    }
-}
-
-// `reduce=` resolves: its operator is the same by the name and by the slot, and takes the value.
-fn intent_resolves(
-    plan: &Plan<'_, '_>,
-    op: Assign,
-    name: &[u8],
-    slot: usize,
-    value: Typed<'_>,
-) -> Result<(), NoNode>
-    ensures resolves { OnOk result (IntentResolves op name.now (variable (kind_of value.entry) slot) (seen_in plan.now)) }
-    ensures ill_typed { (result ≡ Err stop.IllTyped) → slot_in plan.now.scopes name.now ≡ Some slot
-        → IsReducedBy plan.now.scopes (intents_in plan.now) name.now op (kind_of value.entry) → ⊥ }
-{
-    match op {
-        Assign::Set
-        | Assign::SetAdd
-        | Assign::SetSubtract
-        | Assign::SetMultiply
-        | Assign::SetDivide
-        | Assign::SetRemainder => Ok(()),
-        Assign::SetReduce => {
-            let by = reducing(&plan.intents, name, slot)?;
-            if combines(value, by) {
-                Ok(())
-            } else {
-                Err(NoNode::IllTyped)
-            }
         }
     }
 }
@@ -393,8 +207,6 @@ fn set_single<'t>(
 {
     let made = item(plan.arena, &plan.scopes, value)?;
     let slot = variable(&plan.scopes, name.text, made)?;
-    taken(plan, name.text, value, made)?;
-    intent_resolves(plan, sign.op, name.text, slot, made)?;
     change(plan.arena, &plan.scopes, name.at, sign, slot, made)
 }
 

@@ -1,13 +1,11 @@
 // Declarations of variables: what each is declared as, its slot, and what it begins with: a value that is written, or its type's.
-// The type is the one that the check gives the name; a value of another kind or another shape is refused.
+// The type is the one that the check gives the name; a value of another kind is refused.
 
 ghost use Rattle.std.specs.Prelude.{◌≡◌, ◌≢◌, nat_le, ◌&&◌, true, false, IfOk, IfSome, IfNone, Err, Some, None};
 ghost use Rattle.dpl_language.specs.Tree.{ArrayType as ArrayTypeTree, Declare as DeclareTree};
 ghost use Rattle.dpl_language.specs.Declarations.{type_of};
-ghost use Rattle.dpl_tree.specs.View.{items_view};
-ghost use Rattle.dpl_tree.specs.Declarations.{optional, typed_view as written_type_view, created_view, init_view, initial_view, domain_type_view, array_type_view, declare_view};
-ghost use Rattle.dpl_rules.specs.Declarations.{declared_by};
-ghost use Rattle.dpl_scopes.specs.Types.{type_view, of_type};
+ghost use Rattle.dpl_tree.specs.Declarations.{optional, typed_view as written_type_view, init_view, initial_view, domain_type_view, array_type_view, declare_view};
+ghost use Rattle.dpl_scopes.specs.Types.{type_view};
 ghost use Rattle.dpl_lowered.specs.Shapes.{nowhere};
 ghost use Rattle.dpl_lowered.specs.LoweredStatements.{unplaced_word};
 ghost use Rattle.dpl_memory.specs.Memory.{VariableKind, DomainKind, variable};
@@ -17,18 +15,15 @@ ghost use Rattle.dpl_nodes.specs.declared.placing.Placing.TheVariants as placing
 ghost use Rattle.dpl_nodes.specs.Steps.{step_view, dimensions};
 ghost use Rattle.dpl_typer.specs.Makers.{kind_of};
 ghost use Rattle.dpl_typer.specs.Leaves.{value_kind};
-ghost use Rattle.dpl_typer.specs.Shapes.{IsTakenOf};
-ghost use Rattle.dpl_typer.specs.Elaborated.{IsCreated};
 ghost use Rattle.dpl_planner.specs.declared.declaration.Beginning.TheVariants as beginning;
-ghost use Rattle.dpl_planner.specs.Given.{IsOfLeaf};
-ghost use Rattle.dpl_planner.specs.Arrays.{IsNoArrayType};
-ghost use Rattle.dpl_planner.specs.Parts.{IsSingleKind, IsSingleType, IsWrittenType, IsDefault, BeginsByDefault, IsGivenInit, begun_kind, begun_as, IsPlacedWith, IsInitial, PlansDeclare};
+ghost use Rattle.dpl_runnable.specs.InSight.{IsNoArrayType, IsSingleKind};
+ghost use Rattle.dpl_planner.specs.Parts.{IsSingleType, IsWrittenType, IsDefault, BeginsByDefault, IsGivenInit, begun_kind, begun_as, IsPlacedWith, IsInitial};
 ghost use Rattle.dpl_runnable.specs.Kinds.{IsScalarKind};
-ghost use Rattle.dpl_runnable.specs.Runnable.{created_type, IsCreatedOf, IsInitOf, IsShapedInit, IsInitialOf, IsShapedInitial, IsConfigOf, IsRunnableDeclare, IsRunnableStmt};
+ghost use Rattle.dpl_runnable.specs.Runnable.{IsInitOf, IsInitialOf, IsConfigOf, IsRunnableDeclare, IsRunnableStmt};
 ghost use Rattle.dpl_planner.specs.Plans.{intents_in, PlansStmt};
 
 use crate::arrays::{declare_array, declared};
-use crate::change::{holds, is_domain, shaped, taken_type};
+use crate::change::{holds, is_domain};
 use crate::progress::Plan;
 use dpl_nodes::step::Rank;
 use dpl_nodes::{Beginning as Begun, IntDeed, NoNode, Placing, Step, TruthDeed, TruthTarget};
@@ -36,14 +31,12 @@ use dpl_placing::root_of;
 use dpl_scopes::{Scopes, ValueType};
 use dpl_syntax::Place;
 use dpl_tree::{
-    Arena, ArrayType, Create, Declare, DeclaredType, DomainType, Init, Initial, ScalarKind,
+    Arena, ArrayType, Declare, DeclaredType, DomainType, Init, Initial, ScalarKind,
     Typed as WrittenType,
 };
 use dpl_typer::created::created;
 use dpl_typer::leaves::{number, truth_word};
 use dpl_typer::{Typed, item};
-use dpl_types::range::over;
-use dpl_typing::expression::items;
 
 /// The type that is written: none, `int` or `bool`, or `domain` with a rank.
 #[derive(Clone, Copy)]
@@ -113,82 +106,35 @@ fn by_default<'t>(arena: Arena<'t>, kind: WrittenKind) -> Result<Beginning<'t>, 
     }
 }
 
-// The type of a created domain, as the check has it.
-fn domain_type<'s>(
-    arena: Arena<'_>,
-    scopes: &Scopes<'s>,
-    written: &Create<'_>,
-) -> Result<Option<ValueType<'s>>, NoNode>
-    ensures typed { IfOk result (λ t. of_type t ≡ created_type scopes.now (created_view written.now)) }
-    ensures ill_typed { result ≢ Err stop.IllTyped }
-{
-    let mut first = None;
-    match items(arena.alloc(), scopes, &written.items, &mut first) {
-        Ok(parts) => Ok(over(written.from, &parts, &mut first)),
-        Err(_) => Err(NoNode::Memory),
-    }
-}
-
-// A created domain, which a name of the type may be given.
-fn created_domain<'t>(
-    arena: Arena<'t>,
-    scopes: &Scopes<'_>,
-    declared: ValueType<'_>,
-    written: &Create<'_>,
-) -> Result<Typed<'t>, NoNode>
-    ensures created { IfOk result (λ t. IsCreated scopes.now written.now.from (items_view written.now.items) t) }
-    ensures taken { IfOk result (λ t. IsTakenOf (created_type scopes.now (created_view written.now)) (type_view declared.entry)) }
-    ensures ill_typed { (result ≡ Err stop.IllTyped) → IsCreatedOf scopes.now (created_view written.now) DomainKind
-        → IsTakenOf (created_type scopes.now (created_view written.now)) (type_view declared.entry) → ⊥ }
-{
-    let value = created(arena, scopes, written.from, &written.items)?;
-    let given = domain_type(arena, scopes, written)?;
-    taken_type(declared, given)?;
-    Ok(value)
-}
-
 // The initial value that is written, without its map.
-fn given<'t>(
-    arena: Arena<'t>,
-    scopes: &Scopes<'_>,
-    declared: ValueType<'_>,
-    written: &Init<'_>,
-) -> Result<Typed<'t>, NoNode>
-    ensures given { IfOk result (λ t. IsGivenInit scopes.now (init_view written.now) (type_view declared.entry) t) }
+fn given<'t>(arena: Arena<'t>, scopes: &Scopes<'_>, written: &Init<'_>) -> Result<Typed<'t>, NoNode>
+    ensures given { IfOk result (λ t. IsGivenInit scopes.now (init_view written.now) t) }
     ensures kind { IfOk result (λ t. (k : VariableKind) → IsSingleKind k → IsInitOf scopes.now (init_view written.now) k → kind_of t ≡ k) }
-    ensures ill_typed { (result ≡ Err stop.IllTyped) → (k : VariableKind) → IsInitOf scopes.now (init_view written.now) k
-        → IsShapedInit scopes.now (init_view written.now) (type_view declared.entry) → ⊥ }
+    ensures ill_typed { (result ≡ Err stop.IllTyped) → (k : VariableKind) → IsInitOf scopes.now (init_view written.now) k → ⊥ }
 {
     match written {
-        Init::Item(written, _) => {
-            let value = item(arena, scopes, written)?;
-            shaped(arena, scopes, declared, written, value)?;
-            Ok(value)
-        }
-        Init::Create(written) => created_domain(arena, scopes, declared, written),
+        Init::Item(written, _) => item(arena, scopes, written),
+        Init::Create(written) => created(arena, scopes, written.from, &written.items),
     }
 }
 
-// What a variable of a declared type begins with.
+// What a variable begins with.
 fn initial<'t>(
     arena: Arena<'t>,
     scopes: &Scopes<'_>,
-    declared: ValueType<'_>,
     typed: &Option<WrittenType<'_>>,
     written: &Option<Initial<'_>>,
 ) -> Result<Beginning<'t>, NoNode>
-    ensures initial { IfOk result (λ b. IsInitial scopes.now (optional written_type_view typed.now) (optional initial_view written.now)
-        (type_view declared.entry) b) }
+    ensures initial { IfOk result (λ b. IsInitial scopes.now (optional written_type_view typed.now) (optional initial_view written.now) b) }
     ensures kind { IfOk result (λ b. (k : VariableKind) → IsSingleKind k
         → IsInitialOf scopes.now (type_of (optional written_type_view typed.now)) (optional initial_view written.now) k → begun_kind b ≡ k) }
     ensures ill_typed { (result ≡ Err stop.IllTyped) → (k : VariableKind) → IsSingleType (type_of (optional written_type_view typed.now))
-        → IsInitialOf scopes.now (type_of (optional written_type_view typed.now)) (optional initial_view written.now) k
-        → IsShapedInitial scopes.now (optional initial_view written.now) (type_view declared.entry) → ⊥ }
+        → IsInitialOf scopes.now (type_of (optional written_type_view typed.now)) (optional initial_view written.now) k → ⊥ }
 {
     let kind = written_kind(typed)?;
     match written {
         Some(initial) => {
-            let value = given(arena, scopes, declared, &initial.init)?;
+            let value = given(arena, scopes, &initial.init)?;
             Ok(Beginning::Value(value))
         }
         None => by_default(arena, kind),
@@ -244,7 +190,6 @@ fn declares_value<'t>(
     placing: Placing<'t>,
 ) -> Result<Step<'t>, NoNode>
     ensures node { IfOk result (λ s. step_view s ≡ begun_as None (variable (kind_of value.entry) slot) (beginning.Value value.entry) placing.entry) }
-    ensures kind { IfOk result (λ s. IsSingleKind (kind_of value.entry)) }
     ensures ill_typed { (result ≡ Err stop.IllTyped) → IsSingleKind (kind_of value.entry) → ⊥ }
 {
     match value {
@@ -259,7 +204,6 @@ fn declares_value<'t>(
 // A `config const`, which is an int or a truth value.
 fn configures<'t>(slot: usize, begun: Beginning<'t>) -> Result<Step<'t>, NoNode>
     ensures node { IfOk result (λ s. (p : PlacingNode) → step_view s ≡ begun_as (Some nowhere) (variable (begun_kind begun.entry) slot) begun.entry p) }
-    ensures kind { IfOk result (λ s. IsScalarKind (begun_kind begun.entry)) }
     ensures ill_typed { (result ≡ Err stop.IllTyped) → IsScalarKind (begun_kind begun.entry) → ⊥ }
 {
     match begun {
@@ -287,7 +231,6 @@ fn declares<'t>(
     placing: Placing<'t>,
 ) -> Result<Step<'t>, NoNode>
     ensures node { IfOk result (λ s. step_view s ≡ begun_as (unplaced_word config) (variable (begun_kind begun.entry) slot) begun.entry placing.entry) }
-    ensures kind { IfOk result (λ s. IsSingleKind (begun_kind begun.entry) × IsConfigOf config (begun_kind begun.entry)) }
     ensures ill_typed { (result ≡ Err stop.IllTyped) → IsSingleKind (begun_kind begun.entry) → IsConfigOf config (begun_kind begun.entry) → ⊥ }
 {
     match config {
@@ -305,9 +248,7 @@ fn declare_single<'s, 't>(
     written: &Declare<'s>,
 ) -> Result<Step<'t>, NoNode>
     requires { IsNoArrayType (type_of (optional written_type_view written.now.typed)) }
-    ensures plans { IfOk result (λ step. PlansDeclare plan.old plan.new (declare_view written.now) step) }
-    ensures config { IfOk result (λ step. (at : Place) → ((declare_view written.now).config ≡ Some at)
-        → IsOfLeaf (declared_by plan.old.scopes (declare_view written.now))) }
+    ensures plans { IfOk result (λ step. PlansStmt plan.old plan.new (DeclareTree (declare_view written.now)) step) }
     ensures ill_typed { (result ≡ Err stop.IllTyped) → IsRunnableDeclare plan.old.scopes (declare_view written.now) → ⊥ }
 {
     let declared = declared(plan, written)?;
@@ -317,7 +258,6 @@ fn declare_single<'s, 't>(
     let begun = initial(
         plan.arena,
         &plan.scopes,
-        value_type,
         &written.typed,
         &written.initial,
     )?;
@@ -351,15 +291,13 @@ fn array_written<'w, 's>(typed: &'w Option<WrittenType<'s>>) -> Option<&'w Array
 /// A declaration, whose name is in sight behind it.
 ///
 /// # Errors
-/// Out of memory; a name that its scope has, what is no variable of one slot, a value of another kind or shape, or a map that has no
-/// typed form or stands beside what is no domain.
+/// Out of memory; what is no variable of one slot, a value of another kind, or a map that has no typed form or stands beside what is no
+/// domain.
 pub(crate) fn declare<'s, 't>(
     plan: &mut Plan<'s, 't>,
     written: &Declare<'s>,
 ) -> Result<Step<'t>, NoNode>
-    ensures plans { IfOk result (λ step. PlansDeclare plan.old plan.new (declare_view written.now) step) }
-    ensures config { IfOk result (λ step. (at : Place) → ((declare_view written.now).config ≡ Some at)
-        → IsOfLeaf (declared_by plan.old.scopes (declare_view written.now))) }
+    ensures plans { IfOk result (λ step. PlansStmt plan.old plan.new (DeclareTree (declare_view written.now)) step) }
     ensures ill_typed { (result ≡ Err stop.IllTyped) → IsRunnableDeclare plan.old.scopes (declare_view written.now) → ⊥ }
 {
     match array_written(&written.typed) {

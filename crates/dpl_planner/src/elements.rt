@@ -1,11 +1,10 @@
 // What is given to arrays: to each element of a whole array, or to one element.
 // A whole array takes arrays of its own kind, promoted or not, and whatever one of its elements takes.
 
-ghost use Rattle.std.specs.Prelude.{◌≡◌, ◌≢◌, true, OnOk, IfOk, IfSome, IfNone, Err, Some, None};
+ghost use Rattle.std.specs.Prelude.{◌≡◌, ◌≢◌, true, IfOk, IfSome, IfNone, Err, Some, None};
 ghost use Rattle.dpl_language.specs.Tree.{Kind, IntKind, BoolKind, One, SetReduce, Whole, Assigned as AssignedTree};
 ghost use Rattle.dpl_tree.specs.View.{name_view, item_view};
 ghost use Rattle.dpl_tree.specs.Statements.{sign_view};
-ghost use Rattle.dpl_rules.specs.Expressions.{item_type as item_type_of};
 ghost use Rattle.dpl_scopes.specs.Types.{type_view};
 ghost use Rattle.dpl_scopes.specs.Slots.{slot_in};
 ghost use Rattle.dpl_lowered.specs.LoweredExpressions.{Once, EachTurn};
@@ -18,10 +17,9 @@ ghost use Rattle.dpl_nodes.specs.declared.stop.NoNode.TheVariants as stop;
 ghost use Rattle.dpl_typer.specs.declared.make.Typed.TheVariants as typed;
 ghost use Rattle.dpl_typer.specs.Makers.{typed_item, kind_of, operand_kind, leaf_of};
 ghost use Rattle.dpl_typer.specs.Leaves.{value_kind, kind_in};
-ghost use Rattle.dpl_runnable.specs.Runnable.{IsItemOf, IsRunnableStmt};
-ghost use Rattle.dpl_planner.specs.Parts.{IsItem};
+ghost use Rattle.dpl_runnable.specs.Runnable.{IsRunnableStmt};
 ghost use Rattle.dpl_planner.specs.declared.elements.Elements.TheVariants as each;
-ghost use Rattle.dpl_planner.specs.Elements.{elements_view, elements_kind, whole_changed, element_tree, element_changed, HasItemType, IsValued};
+ghost use Rattle.dpl_planner.specs.Elements.{elements_view, elements_kind, whole_changed, element_tree, element_changed};
 ghost use Rattle.dpl_planner.specs.Plans.{intents_in, PlansStmt};
 
 use crate::change::declared_type;
@@ -34,7 +32,6 @@ use dpl_syntax::Place;
 use dpl_tree::{Arena, Assign, AssignSign, Element, Item, Name, ScalarKind};
 use dpl_typer::parts::index;
 use dpl_typer::{Typed, item};
-use dpl_typing::expression::item as item_type;
 
 /// What each element is given, evaluated at each index.
 #[derive(Clone, Copy)]
@@ -77,42 +74,10 @@ pub(crate) fn array_named(scopes: &Scopes<'_>, name: &[u8]) -> Option<ScalarKind
     }
 }
 
-// An item has a type.
-fn known(arena: Arena<'_>, scopes: &Scopes<'_>, written: &Item<'_>) -> Result<(), NoNode>
-    ensures known { OnOk result (HasItemType scopes.now (item_view written.now)) }
-    ensures ill_typed { (result ≡ Err stop.IllTyped) → item_type_of scopes.now (item_view written.now) ≡ None }
-{
-    let mut first = None;
-    match item_type(arena.alloc(), scopes, written, &mut first) {
-        Ok(Some(_)) => Ok(()),
-        Ok(None) => Err(NoNode::IllTyped),
-        Err(_) => Err(NoNode::Memory),
-    }
-}
-
-/// An item that has a type, elaborated.
-///
-/// # Errors
-/// Out of memory; an item without a type.
-pub(crate) fn valued<'t>(
-    arena: Arena<'t>,
-    scopes: &Scopes<'_>,
-    written: &Item<'_>,
-) -> Result<Typed<'t>, NoNode>
-    ensures item { IfOk result (λ t. IsItem scopes.now (item_view written.now) t) }
-    ensures valued { IfOk result (λ t. IsValued scopes.now (item_view written.now) t) }
-    ensures ill_typed { (result ≡ Err stop.IllTyped) → (k : VariableKind) → IsItemOf scopes.now (item_view written.now) k → ⊥ }
-{
-    let made = item(arena, scopes, written)?;
-    known(arena, scopes, written)?;
-    Ok(made)
-}
-
 // Ints at each index.
 fn given_ints<'t>(arena: Arena<'t>, value: Typed<'t>) -> Result<Elements<'t>, NoNode>
     ensures node { IfOk result (λ e. One (elements_view e) ≡ typed_item EachTurn value.entry) }
     ensures kind { IfOk result (λ e. elements_kind e ≡ IntKind) }
-    ensures given { IfOk result (λ e. operand_kind (kind_of value.entry) ≡ Some IntKind) }
     ensures ill_typed { (result ≡ Err stop.IllTyped) → operand_kind (kind_of value.entry) ≢ Some IntKind }
 {
     match value {
@@ -127,7 +92,6 @@ fn given_ints<'t>(arena: Arena<'t>, value: Typed<'t>) -> Result<Elements<'t>, No
 fn given_truths<'t>(arena: Arena<'t>, value: Typed<'t>) -> Result<Elements<'t>, NoNode>
     ensures node { IfOk result (λ e. One (elements_view e) ≡ typed_item EachTurn value.entry) }
     ensures kind { IfOk result (λ e. elements_kind e ≡ BoolKind) }
-    ensures given { IfOk result (λ e. operand_kind (kind_of value.entry) ≡ Some BoolKind) }
     ensures ill_typed { (result ≡ Err stop.IllTyped) → operand_kind (kind_of value.entry) ≢ Some BoolKind }
 {
     match value {
@@ -149,7 +113,6 @@ pub(crate) fn given_elements<'t>(
 ) -> Result<Elements<'t>, NoNode>
     ensures node { IfOk result (λ e. One (elements_view e) ≡ typed_item EachTurn value.entry) }
     ensures kind { IfOk result (λ e. elements_kind e ≡ kind) }
-    ensures given { IfOk result (λ e. operand_kind (kind_of value.entry) ≡ Some kind) }
     ensures ill_typed { (result ≡ Err stop.IllTyped) → operand_kind (kind_of value.entry) ≢ Some kind }
 {
     match kind {
@@ -185,8 +148,6 @@ fn set_ints<'t>(
     e: &'t PromotedInt<'t>,
 ) -> Result<Step<'t>, NoNode>
     ensures node { IfOk result (λ s. step_view s ≡ whole_changed (array_leaf IntKind x.now) sign.op sign.at (One (elements_view (each.Ints e.entry)))) }
-    ensures takes { IfOk result (λ s. element_takes IntKind sign.op ≡ true) }
-    ensures unreduced { IfOk result (λ s. sign.op ≢ SetReduce) }
     ensures ill_typed { (result ≡ Err stop.IllTyped) → sign.op ≢ SetReduce → IsNear sign.at → ⊥ }
 {
     match sign.op {
@@ -211,8 +172,6 @@ fn set_truths<'t>(
     e: &'t PromotedTruth<'t>,
 ) -> Result<Step<'t>, NoNode>
     ensures node { IfOk result (λ s. step_view s ≡ whole_changed (array_leaf BoolKind x.now) sign.op sign.at (One (elements_view (each.Truths e.entry)))) }
-    ensures takes { IfOk result (λ s. element_takes BoolKind sign.op ≡ true) }
-    ensures unreduced { IfOk result (λ s. sign.op ≢ SetReduce) }
     ensures ill_typed { (result ≡ Err stop.IllTyped) → element_takes BoolKind sign.op ≡ true → sign.op ≢ SetReduce → IsNear sign.at → ⊥ }
 {
     match sign.op {
@@ -238,8 +197,6 @@ fn set_elements<'t>(
 ) -> Result<Step<'t>, NoNode>
     ensures node { IfOk result (λ s. step_view s
         ≡ whole_changed (array_leaf (elements_kind elements.entry) x.now) sign.op sign.at (One (elements_view elements.entry))) }
-    ensures takes { IfOk result (λ s. element_takes (elements_kind elements.entry) sign.op ≡ true) }
-    ensures unreduced { IfOk result (λ s. sign.op ≢ SetReduce) }
     ensures ill_typed { (result ≡ Err stop.IllTyped) → element_takes (elements_kind elements.entry) sign.op ≡ true → sign.op ≢ SetReduce → IsNear sign.at → ⊥ }
 {
     match elements {
@@ -267,7 +224,7 @@ pub(crate) fn set_array<'t>(
         → IsRunnableStmt plan.now.scopes (intents_in plan.now) (AssignedTree (Whole (name_view name.now)) (sign_view sign) (item_view value.now) semicolon)
         → ⊥ }
 {
-    let made = valued(plan.arena, &plan.scopes, value)?;
+    let made = item(plan.arena, &plan.scopes, value)?;
     let elements = given_elements(plan.arena, kind, made)?;
     let x = array_name(plan.arena, &plan.scopes, name)?;
     set_elements(plan.arena, x, sign, elements)
@@ -283,8 +240,6 @@ fn set_int<'t>(
 ) -> Result<Step<'t>, NoNode>
     ensures node { IfOk result (λ s. step_view s
         ≡ element_changed (array_leaf IntKind x.now) (index_exprs index.now) sign.op sign.at (typed_item Once (typed.Int e.entry))) }
-    ensures takes { IfOk result (λ s. element_takes IntKind sign.op ≡ true) }
-    ensures unreduced { IfOk result (λ s. sign.op ≢ SetReduce) }
     ensures ill_typed { (result ≡ Err stop.IllTyped) → sign.op ≢ SetReduce → IsNear sign.at → ⊥ }
 {
     match sign.op {
@@ -310,8 +265,6 @@ fn set_truth<'t>(
 ) -> Result<Step<'t>, NoNode>
     ensures node { IfOk result (λ s. step_view s
         ≡ element_changed (array_leaf BoolKind x.now) (index_exprs index.now) sign.op sign.at (typed_item Once (typed.Truth e.entry))) }
-    ensures takes { IfOk result (λ s. element_takes BoolKind sign.op ≡ true) }
-    ensures unreduced { IfOk result (λ s. sign.op ≢ SetReduce) }
     ensures ill_typed { (result ≡ Err stop.IllTyped) → element_takes BoolKind sign.op ≡ true → sign.op ≢ SetReduce → ⊥ }
 {
     match sign.op {
@@ -336,9 +289,6 @@ fn element_step<'t>(
 ) -> Result<Step<'t>, NoNode>
     ensures node { IfOk result (λ s. step_view s
         ≡ element_changed (array_leaf kind x.now) (index_exprs index.now) sign.op sign.at (typed_item Once value.entry)) }
-    ensures takes { IfOk result (λ s. element_takes kind sign.op ≡ true) }
-    ensures unreduced { IfOk result (λ s. sign.op ≢ SetReduce) }
-    ensures given { IfOk result (λ s. kind_of value.entry ≡ PlainKind (leaf_of kind)) }
     ensures ill_typed { (result ≡ Err stop.IllTyped) → kind_of value.entry ≡ PlainKind (leaf_of kind) → element_takes kind sign.op ≡ true
         → sign.op ≢ SetReduce → IsNear sign.at → ⊥ }
 {
@@ -384,6 +334,6 @@ pub(crate) fn set_element<'t>(
     };
     let x = array_name(plan.arena, &plan.scopes, &target.name)?;
     let index = index(plan.arena, &plan.scopes, &target.exprs)?;
-    let made = valued(plan.arena, &plan.scopes, value)?;
+    let made = item(plan.arena, &plan.scopes, value)?;
     element_step(plan.arena, x, kind, index, sign, made)
 }

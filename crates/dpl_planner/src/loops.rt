@@ -10,7 +10,6 @@ ghost use Rattle.dpl_tree.specs.Statements.{variables_view, intent_view, with_vi
 ghost use Rattle.dpl_scopes.specs.Types.{type_view};
 ghost use Rattle.dpl_rules.specs.Sights.{enter};
 ghost use Rattle.dpl_rules.specs.Expressions.{item_type};
-ghost use Rattle.dpl_rules.specs.Loops.{variables_of};
 ghost use Rattle.dpl_forms.specs.Heads.{word_view, names_in};
 ghost use Rattle.dpl_words.specs.Words.{IntLeaf, TruthLeaf, RangeLeaf};
 ghost use Rattle.dpl_memory.specs.Memory.{VariableKind, PlainKind, DomainKind};
@@ -19,8 +18,9 @@ ghost use Rattle.dpl_nodes.specs.declared.stop.NoNode.TheVariants as stop;
 ghost use Rattle.dpl_nodes.specs.Steps.{intent_view as step_intent, unplaced_leaf, names_view};
 ghost use Rattle.dpl_typer.specs.Leaves.{value_kind, kind_in, leaf_by, IsOfType};
 ghost use Rattle.dpl_typer.specs.Sights.{bound_in};
-ghost use Rattle.dpl_planner.specs.Bounds.{loop_type};
-ghost use Rattle.dpl_planner.specs.Parts.{IsItem, IsCondition, IsTurnKind, AreTurnKinds, AreFresh, AreDeclared, IsOpened, over_typed, intents_among};
+ghost use Rattle.dpl_runnable.specs.Bounds.{loop_type};
+ghost use Rattle.dpl_runnable.specs.InSight.{IsTurnKind, AreTurnKinds};
+ghost use Rattle.dpl_planner.specs.Parts.{IsItem, IsCondition, AreDeclared, IsOpened, over_typed, intents_among};
 ghost use Rattle.dpl_runnable.specs.Kinds.{IsScalarKind};
 ghost use Rattle.dpl_runnable.specs.Runnable.{IsExprOf, IsItemOf, IsRunnableIntent, AreRunnableIntents, HasRunnableIntents};
 ghost use Rattle.dpl_planner.specs.Plans.{reducing_view};
@@ -162,7 +162,7 @@ fn other_names<'s, 't>(
     others: &[NextName<'s>],
 ) -> Result<&'t [usize], NoNode>
     ensures declared { IfOk result (λ slots. AreDeclared (type_view t.entry) (names_in others.now) plan.old plan.new slots.now) }
-    ensures ill_typed { (result ≡ Err stop.IllTyped) → AreFresh (Some (type_view t.entry)) (names_in others.now) plan.old.scopes → ⊥ }
+    ensures ill_typed { result ≢ Err stop.IllTyped }
 {
     let mut slots = Vec::new(plan.arena.alloc());
     for next in others {
@@ -183,7 +183,7 @@ pub(crate) fn open<'s, 't>(
 ) -> Result<Names<'t>, NoNode>
     ensures opened { IfOk result (λ names. IsOpened plan.old plan.new (type_view t.entry) (variables_view variables.now) names) }
     ensures ill_typed { (result ≡ Err stop.IllTyped) → AreTurnKinds (variables_view variables.now) (value_kind (type_view t.entry))
-        → AreFresh (Some (type_view t.entry)) (variables_of (variables_view variables.now)) (enter plan.old.scopes) → ⊥ }
+        → ⊥ }
 {
     plan.enter()?;
     match variables {

@@ -1,22 +1,19 @@
 // A whole program: its statements, how many slots they need, and the names at its end.
-// A `config const` stands at the top level, where the names at the end tell it.
+// A `config const` stands at the top level alone.
 
-ghost use Rattle.std.specs.Prelude.{◌≡◌, ◌≤◌, IfOk, Err, []};
+ghost use Rattle.std.specs.Prelude.{◌≡◌, IfOk, Err, []};
 ghost use Rattle.dpl_agreement.specs.Renamed.{renamed_program};
-ghost use Rattle.dpl_agreement.specs.Scopes.{fits_all};
 ghost use Rattle.dpl_tree.specs.Statements.{stmt_view, stmts_of, program_view};
 ghost use Rattle.dpl_rules.specs.Breaches.{top};
 ghost use Rattle.dpl_rules.specs.Sound.{behind_all};
 ghost use Rattle.dpl_lowered.specs.LoweredStatements.{lowered_program};
 ghost use Rattle.dpl_memory.specs.Memory.{known_variable};
-ghost use Rattle.dpl_memory.specs.Resolved.{Start, variable_of, first_seen, resolving};
+ghost use Rattle.dpl_memory.specs.Resolved.{variable_of};
 ghost use Rattle.dpl_nodes.specs.Steps.{steps_of};
-ghost use Rattle.dpl_typer.specs.Sights.{AreKnownScopes};
-ghost use Rattle.dpl_planner.specs.Bounds.{bound_program};
-ghost use Rattle.dpl_planner.specs.Given.{AreGiven};
+ghost use Rattle.dpl_runnable.specs.Bounds.{bound_program, slots_of};
 ghost use Rattle.dpl_nodes.specs.declared.stop.NoNode.TheVariants as stop;
 ghost use Rattle.dpl_runnable.specs.Runnable.{IsRunnableTop, AreRunnableTops};
-ghost use Rattle.dpl_planner.specs.Plans.{intents_in, PlansTop, PlansTops};
+ghost use Rattle.dpl_planner.specs.Plans.{intents_in, PlansStmt, PlansStmts};
 
 use crate::declaration::declare;
 use crate::progress::{Plan, list, push};
@@ -37,7 +34,7 @@ pub struct Planned<'s, 't> {
 
 // A statement of the top level.
 fn top_stmt<'s, 't>(plan: &mut Plan<'s, 't>, written: &Stmt<'s>) -> Result<Step<'t>, NoNode>
-    ensures plans { IfOk result (λ step. PlansTop plan.old plan.new (stmt_view written.now) step) }
+    ensures plans { IfOk result (λ step. PlansStmt plan.old plan.new (stmt_view written.now) step) }
     ensures ill_typed { (result ≡ Err stop.IllTyped) → (intents_in plan.old ≡ []) → IsRunnableTop plan.old.scopes (stmt_view written.now) → ⊥ }
 {
     match written {
@@ -58,7 +55,7 @@ fn top_stmt<'s, 't>(plan: &mut Plan<'s, 't>, written: &Stmt<'s>) -> Result<Step<
 
 // The statements of the top level.
 fn top_stmts<'s, 't>(plan: &mut Plan<'s, 't>, stmts: &[Stmt<'s>]) -> Result<&'t [Step<'t>], NoNode>
-    ensures plans { IfOk result (λ steps. PlansTops plan.old plan.new (stmts_of stmts.now) steps.now) }
+    ensures plans { IfOk result (λ steps. PlansStmts plan.old plan.new (stmts_of stmts.now) steps.now) }
     ensures ill_typed { (result ≡ Err stop.IllTyped) → (intents_in plan.old ≡ []) → AreRunnableTops plan.old.scopes (stmts_of stmts.now) → ⊥ }
 {
     let mut steps = Vec::new(plan.arena.alloc());
@@ -70,19 +67,18 @@ fn top_stmts<'s, 't>(plan: &mut Plan<'s, 't>, stmts: &[Stmt<'s>]) -> Result<&'t 
 }
 
 /// The program as typed statements over slots. What they stand for is its lowered tree, with each name resolved: a
-/// declared name has a slot that no name in sight has, and any other that of its innermost declaration.
+/// declared name has the next slot, and any other that of its innermost declaration. That these names resolve is a law of programs that
+/// run (`program-resolves` of dpl_runnable).
 ///
 /// # Errors
 /// Out of memory; what doesn't run, as cells, tasks and locales don't; a `config` inside a body, and a forall inside one with reduce
-/// variables; a name that isn't in sight, or is declared twice in one scope; a value of another kind or another shape than its place
-/// takes; a map beside what is no domain, or of which an argument is of a type that the rules refuse.
+/// variables; a name that isn't in sight; a value of another kind than its place takes; a map beside what is no domain, or of which an
+/// argument is of a type that the rules refuse.
 pub fn plan<'s, 't>(arena: Arena<'t>, program: &Program<'s>) -> Result<Planned<'s, 't>, NoNode>
     ensures steps { IfOk result (λ p. (lowered_program known_variable (renamed_program variable_of (bound_program (program_view program.now)))).stmts
         ≡ steps_of p.steps.now) }
-    ensures fits { IfOk result (λ p. (start : Start) → p.slots ≤ start.slots → AreGiven start p.scopes
-        → fits_all (resolving start) (bound_program (program_view program.now)).stmts first_seen) }
+    ensures slots { IfOk result (λ p. p.slots ≡ slots_of (program_view program.now)) }
     ensures scopes { IfOk result (λ p. p.scopes ≡ behind_all top (stmts_of program.now.stmts.now)) }
-    ensures plain { IfOk result (λ p. AreKnownScopes p.scopes) }
     ensures ill_typed { (result ≡ Err stop.IllTyped) → AreRunnableTops top (stmts_of program.now.stmts.now) → ⊥ }
 {
     let mut plan = Plan::begin(arena)?;

@@ -1,14 +1,15 @@
 // What a plan has so far: the names in sight, how many slots there are, and the reduce variables of the forall around.
 // A scope is opened and left here, and a name is declared here, with the next slot.
 
-ghost use Rattle.std.specs.Prelude.{◌≡◌, ◌≢◌, ◌≤◌, ◌<◌, ◌++◌, ◌∷◌, [], drop, true, false, Err, Some, OnOk, IfOk};
-ghost use Rattle.dpl_rules.specs.Sights.{enter as enter_scopes, add, declared_here, origin_in};
+ghost use Rattle.std.specs.Prelude.{◌≡◌, ◌≢◌, ◌++◌, ◌∷◌, [], drop, Err, Some, OnOk, IfOk};
+ghost use Rattle.dpl_rules.specs.Sights.{enter as enter_scopes, add, origin_in};
 ghost use Rattle.dpl_rules.specs.Breaches.{top};
 ghost use Rattle.dpl_scopes.specs.Types.{type_view};
 ghost use Rattle.dpl_scopes.specs.Slots.{next_slot_in};
 ghost use Rattle.dpl_scopes.specs.View.{sort_view};
 ghost use Rattle.dpl_nodes.specs.Spots.{IsNear};
 ghost use Rattle.dpl_nodes.specs.declared.stop.NoNode.TheVariants as stop;
+ghost use Rattle.dpl_runnable.specs.Bounds.{with_slot};
 
 use dpl_nodes::{Intent, NoNode, Spot};
 use dpl_scopes::{Scopes, Sort, ValueType};
@@ -38,6 +39,7 @@ impl<'s, 't> Plan<'s, 't> {
     /// A plan of nothing, with one open scope.
     pub(crate) fn begin(arena: Arena<'t>) -> Result<Plan<'s, 't>, NoNode>
         ensures scopes { IfOk result (λ plan. plan.scopes ≡ top) }
+        ensures slots { IfOk result (λ plan. plan.slots ≡ 0) }
         ensures intents { IfOk result (λ plan. plan.intents.items ≡ []) }
         ensures ill_typed { result ≢ Err stop.IllTyped }
     {
@@ -70,28 +72,23 @@ impl<'s, 't> Plan<'s, 't> {
         self.scopes.leave();
     }
 
-    /// Declares a name that its scope doesn't have, and gives its slot, which is the next one.
+    /// Declares a name, and gives its slot, which is the next one.
     ///
     /// # Errors
-    /// Out of memory; a name that its scope has.
+    /// Out of memory.
     pub(crate) fn declare(
         &mut self,
         name: &'s [u8],
         sort: Sort,
         value_type: ValueType<'s>,
     ) -> Result<usize, NoNode>
-        ensures fresh { IfOk result (λ slot. declared_here self.old.scopes name.now ≡ false) }
         ensures next { IfOk result (λ slot. slot ≡ next_slot_in self.old.scopes) }
-        ensures below { IfOk result (λ slot. slot < self.new.slots) }
-        ensures slots { IfOk result (λ slot. self.old.slots ≤ self.new.slots) }
+        ensures slots { IfOk result (λ slot. self.new.slots ≡ with_slot self.old.scopes self.old.slots) }
         ensures scopes { IfOk result (λ slot. self.new.scopes
             ≡ add (record { origin = origin_in self.old.scopes name.now; sort = sort_view sort; type = Some (type_view value_type.entry) }) self.old.scopes) }
         ensures intents { IfOk result (λ slot. self.new.intents ≡ self.old.intents) }
-        ensures ill_typed { (result ≡ Err stop.IllTyped) → declared_here self.old.scopes name.now ≡ true }
+        ensures ill_typed { result ≢ Err stop.IllTyped }
     {
-        if self.scopes.declared_here(name) {
-            return Err(NoNode::IllTyped);
-        }
         let slot = self.scopes.next_slot();
         let Some(slots) = slot.checked_add(1) else {
             return Err(NoNode::Memory);

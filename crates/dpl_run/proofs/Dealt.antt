@@ -1,7 +1,6 @@
 -- A plan of a program that has no refusal deals out the turns of each forall that its run enters by the definition's map.
 -- What the tree of its steps says of a forall's map is what the call that makes the forall goes by; and these foralls are the ones that are counted.
-use Rattle.std.proofs.Common.{◌≡◌, ℕ, ◌≤◌, List, [], ◌∷◌, None, refl, sym, ap, ◌∙◌, subst, map}
-use Rattle.std.proofs.Math.Nat.{le_refl}
+use Rattle.std.proofs.Common.{◌≡◌, ℕ, List, [], ◌∷◌, None, refl, sym, ap, ◌∙◌, subst, map}
 use Rattle.dpl_language.specs.Tree.{ProgramTree, One}
 use Rattle.dpl_language.specs.Environment.{Limits}
 use Rattle.dpl_language.specs.Outcome.{no_deeds}
@@ -34,15 +33,14 @@ use Rattle.dpl_nodes.specs.declared.tree.DomainExpr.{DomainExpr}
 use Rattle.dpl_nodes.specs.declared.tree.RangeExpr.{RangeExpr, Local as RangeLocal, Between', Slice', Dimension'}
 use Rattle.dpl_says.specs.Given.{given}
 use Rattle.dpl_given.specs.Words.{words_in}
-use Rattle.dpl_typer.specs.Sights.{AreKnownScopes}
-use Rattle.dpl_planner.specs.Bounds.{bound_program}
-use Rattle.dpl_planner.specs.Given.{AreGiven}
+use Rattle.dpl_runnable.specs.Bounds.{bound_program, slots_of}
+use Rattle.dpl_runnable.specs.Runnable.{AreRunnableTops}
 use Rattle.dpl_planner.proofs.Spelled.{program-spelled}
 use Rattle.dpl_run.specs.Entered.{entered_all, Pairwise}
 use Rattle.dpl_run.specs.Recorded.{loop_of}
 use Rattle.dpl_run.specs.Dealing.{IsDealtAlike, DealsAsMeant, IsDealtAsCounted, DealsAsCounted}
 use Rattle.dpl_run.specs.Plans.{start_of, IsPlan}
-use Rattle.dpl_run.proofs.Planned.{are-given, planned, sets-fit}
+use Rattle.dpl_run.proofs.Planned.{plan-resolves, planned, sets-fit}
 use Rattle.dpl_run.proofs.Standing.{plan-stands}
 use Rattle.dpl_run.proofs.Meaning.{alike}
 use Rattle.dpl_run.proofs.Runnable.{unbroken, walk-unbroken}
@@ -83,13 +81,12 @@ program-deals t sets limits slots scopes steps spelt untasked unbroken fit nodes
 -- ---- a program that has no refusal
 pub plan-deals : (t : ProgramTree Text) (sets : List (List ℕ)) (limits : Limits) (slots : ℕ) (scopes : Scopes) (steps : List Step) → StmtsSpelt IsNear ⊥ t.stmts → UntaskedStmts t.stmts → refusal t sets ≡ None
     → (lowered_program known_variable (renamed_program variable_of (bound_program t))).stmts ≡ steps_of steps
-    → ((start : Start) → slots ≤ start.slots → AreGiven start scopes → fits_all (resolving start) (bound_program t).stmts first_seen)
-    → scopes ≡ behind_all top t.stmts → AreKnownScopes scopes → DealsAsMeant t sets limits slots scopes steps
-plan-deals t sets limits slots scopes steps spelt untasked unrefused nodes fit behind plain =
+    → AreRunnableTops top t.stmts → slots ≡ slots_of t → scopes ≡ behind_all top t.stmts → DealsAsMeant t sets limits slots scopes steps
+plan-deals t sets limits slots scopes steps spelt untasked unrefused nodes runs count behind =
     let sound = (sound_exactly t).1 (unbroken (first_breach t) (sets_fit (behind_all top t.stmts) [] sets) unrefused) in
-    let plan : IsPlan t slots scopes steps = planned t slots scopes steps nodes fit behind plain in
+    let plan : IsPlan t slots scopes steps = planned t slots scopes steps runs nodes count behind in
     program-deals t sets limits slots scopes steps spelt untasked (walk-unbroken t sound)
-    (fit (start_by t sets slots scopes) (le_refl slots) (are-given (start_by t sets slots scopes) scopes (alike t sets slots scopes steps plan (sets-fit t sets unrefused)))) nodes
+    (plan-resolves t slots scopes runs count behind (start_by t sets slots scopes) refl (alike t sets slots scopes steps plan (sets-fit t sets unrefused))) nodes
     (plan-stands t sets steps untasked unrefused nodes)
 
 -- ---- the foralls that are counted: those on record, which are those that the run by names enters

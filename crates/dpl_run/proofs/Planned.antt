@@ -1,4 +1,4 @@
--- The plan that the planner gives, from its clauses and two laws of trees; and that the sets of a program without a refusal fit it.
+-- The plan that the planner gives, from its clauses and three laws of trees; and that the sets of a program without a refusal fit it.
 -- A `config const` in sight is a plain variable, and has a slot.
 use Rattle.std.proofs.Common.{◌≡◌, ℕ, ◌≤◌, List, [], Bool, true, false, Option, Some, None, is_some, refl, sym, ap, ◌∙◌, subst}
 use Rattle.std.proofs.Math.Nat.{le_refl}
@@ -21,10 +21,11 @@ use Rattle.dpl_nodes.specs.Steps.{steps_of}
 use Rattle.dpl_typer.specs.Leaves.{kind_by, kind_in, leaf_by}
 use Rattle.dpl_typer.specs.Shapes.{shape_in}
 use Rattle.dpl_typer.specs.Sights.{bound_in, AreKnownScopes}
-use Rattle.dpl_planner.specs.Bounds.{bound_program}
-use Rattle.dpl_planner.specs.Given.{IsGiven, IsConfig, AreGiven}
+use Rattle.dpl_runnable.specs.Bounds.{bound_program, slots_of}
+use Rattle.dpl_runnable.specs.Runnable.{AreRunnableTops}
+use Rattle.dpl_runnable.specs.Given.{IsGiven, IsConfig, AreGiven}
 use Rattle.dpl_planner.proofs.Spelled.{program-spelled}
-use Rattle.dpl_planner.proofs.Programs.{program-left}
+use Rattle.dpl_runnable.proofs.Resolving.{program-known, program-resolves, program-left}
 use Rattle.dpl_run.specs.Plans.{IsPlan, IsGivenAlike}
 
 some-slot : (o : Option ℕ) → is_some o ≡ true → (slot : ℕ) × (o ≡ Some slot)
@@ -45,18 +46,25 @@ configured-given start ss x alike (Some d) found config =
 pub are-given : (start : Start) (ss : Scopes) → IsGivenAlike ss start → AreGiven start ss
 are-given start ss alike x config = configured-given start ss x alike (lookup ss x) refl config
 
-pub planned : (t : ProgramTree Text) (slots : ℕ) (scopes : Scopes) (steps : List Step) → (lowered_program known_variable (renamed_program variable_of (bound_program t))).stmts ≡ steps_of steps
-    → ((start : Start) → slots ≤ start.slots → AreGiven start scopes → fits_all (resolving start) (bound_program t).stmts first_seen)
-    → scopes ≡ behind_all top t.stmts → AreKnownScopes scopes → IsPlan t slots scopes steps
-planned t slots scopes steps nodes fits behind plain = record {
-  resolved = bound_program t;
-  text = program-spelled t;
-  nodes = nodes;
-  fits = λ start same alike. fits start (subst (λ n. slots ≤ n) (sym same) (le_refl slots)) (are-given start scopes alike);
-  sight = program-left t scopes behind plain;
-  behind = behind;
-  plain = plain;
-}
+-- so the names of a program that runs resolve, in a memory with the slots that it needs
+pub plan-resolves : (t : ProgramTree Text) (slots : ℕ) (scopes : Scopes) → AreRunnableTops top t.stmts → slots ≡ slots_of t → scopes ≡ behind_all top t.stmts
+    → (start : Start) → start.slots ≡ slots → IsGivenAlike scopes start → fits_all (resolving start) (bound_program t).stmts first_seen
+plan-resolves t slots scopes runs count behind start same alike =
+    program-resolves t runs start (subst (λ n. slots_of t ≤ n) (sym (same ∙ count)) (le_refl (slots_of t))) (subst (AreGiven start) behind (are-given start scopes alike))
+
+pub planned : (t : ProgramTree Text) (slots : ℕ) (scopes : Scopes) (steps : List Step) → AreRunnableTops top t.stmts → (lowered_program known_variable (renamed_program variable_of (bound_program t))).stmts ≡ steps_of steps
+    → slots ≡ slots_of t → scopes ≡ behind_all top t.stmts → IsPlan t slots scopes steps
+planned t slots scopes steps runs nodes count behind =
+    let plain : AreKnownScopes scopes = subst AreKnownScopes (sym behind) (program-known t runs) in
+    record {
+      resolved = bound_program t;
+      text = program-spelled t;
+      nodes = nodes;
+      fits = plan-resolves t slots scopes runs count behind;
+      sight = program-left t scopes behind plain;
+      behind = behind;
+      plain = plain;
+    }
 
 -- ---- a program without a refusal
 fitting : (b : Option Breach) (fit : Bool) → refusal_by b fit ≡ None → fit ≡ true

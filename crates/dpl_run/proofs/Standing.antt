@@ -15,7 +15,7 @@ use Rattle.dpl_memory.specs.Memory.{known_variable}
 use Rattle.dpl_memory.specs.Resolved.{text_of, variable_of}
 use Rattle.dpl_nodes.specs.declared.step.Step.{Step}
 use Rattle.dpl_nodes.specs.Steps.{steps_of}
-use Rattle.dpl_planner.specs.Bounds.{bound_program}
+use Rattle.dpl_runnable.specs.Bounds.{bound_program}
 use Rattle.dpl_planner.proofs.Spelled.{program-spelled}
 
 breach-none : (b : Option Breach) (fit : Bool) → refusal_by b fit ≡ None → b ≡ None

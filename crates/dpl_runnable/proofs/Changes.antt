@@ -29,6 +29,7 @@ use Rattle.dpl_typer.proofs.OperatorKinds.{kind-same}
 use Rattle.dpl_nodes.specs.Spots.{IsNear}
 use Rattle.dpl_runnable.specs.Kinds.{IsNamed, AreVariables, IsScalarKind, IsAssignedKind, IsGivenTo}
 use Rattle.dpl_runnable.specs.Runnable.{IsReduced, IsReducedBy, IsRunnableChange, IsRunnableElement}
+use Rattle.dpl_runnable.proofs.Named.{item-plain, exprs-plain}
 use Rattle.dpl_runnable.proofs.Expressions.{kind-cases, known, name_verdict-type, RunnableItem, RunnableExprs, runnable_exprs}
 use Rattle.dpl_runnable.proofs.Arrays.{IsElementOf, round_verdict-element}
 use Rattle.dpl_runnable.proofs.Owed.{owed_type-holds, is_scalar-is, scalar-by, is_domain-kind, scalar-leaf, array-kind, is_scalar-given, is_domain_of-given, fits_array-given}
@@ -185,11 +186,13 @@ module _ (scopes : Scopes) (names : AreVariables scopes) (forall : Option Reduci
       record {
         kind = l;
         target = subst (λ o. kind_by o ≡ Some (ArrayKind l)) (sym is) (subst (λ k. value_kind t ≡ Some k) (sym one) of_kind);
-        simple = index.simple;
+        simple = exprs-plain scopes es index.found;
+        found = index.found;
         near = r;
         index = element.index;
         item = record {
-          simple = value.simple;
+          simple = item-plain scopes item value.found;
+          found = value.found;
           kind = subst (λ o. kind_by o ≡ Some (PlainKind (leaf_of l))) (sym typed) (subst (λ u. value_kind u ≡ Some (PlainKind (leaf_of l))) (sym (is_scalar-is l u fitting.scalar)) (scalar-leaf l));
           near = s;
         };
@@ -257,7 +260,7 @@ module _ (scopes : Scopes) (names : AreVariables scopes) (forall : Option Reduci
           kind = p.kind;
           target = kind;
           given = q.kind;
-          item = record { simple = value.simple; kind = ap kind_by q.is ∙ q.of_kind; near = s };
+          item = record { simple = item-plain scopes item value.found; found = value.found; kind = ap kind_by q.is ∙ q.of_kind; near = s };
           takes = taken.given;
           shaped = λ t e. subst (IsTaken scopes item) (some-same p.type t (sym p.is ∙ e)) (q.type, q.is, taken.shaped);
           assigned = taken.assigned;

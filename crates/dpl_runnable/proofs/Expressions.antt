@@ -1,11 +1,11 @@
 -- Where each name in sight has a type of some kind, an expression that a text spells, that needs nothing which doesn't run and
--- that breaks no rule is simple, and its type has a kind too.
-use Rattle.std.proofs.Common.{◌≡◌, ℕ, suc, arith, ne_eqb, Bool, true, false, List, [], ◌∷◌, ◌++◌, length, Option, Some, None, refl, sym, ap, ◌∙◌, subst}
+-- that breaks no rule is simple, its names are in sight, and its type has a kind too.
+use Rattle.std.proofs.Common.{◌≡◌, ℕ, suc, arith, ne_eqb, Bool, true, false, List, [], ◌∷◌, ◌++◌, length, is_some, Option, Some, None, refl, sym, ap, ◌∙◌, subst}
 use Rattle.std.specs.Prelude.{nat_lt, ◌&&◌, ◌==◌}
 use Rattle.std.proofs.lemmas.Option.{none-some}
 use Rattle.std.proofs.lemmas.Bool.Decides.{nat_tests}
 use Rattle.dpl_syntax.specs.declared.place.Place.{Place}
-use Rattle.dpl_language.specs.Tree.{Kind, ReadWord, Infix, Add, Subtract, Multiply, Divide, Remainder, Less, LessEqual, Greater, GreaterEqual, Equal, NotEqual, And, Or}
+use Rattle.dpl_language.specs.Tree.{Placed, Kind, ReadWord, Infix, Add, Subtract, Multiply, Divide, Remainder, Less, LessEqual, Greater, GreaterEqual, Equal, NotEqual, And, Or}
 use Rattle.dpl_language.specs.Tree.{ExprTree, Number, TruthWord, Named, LocalesWord, LocaleCount, HereWord, Grouped, DomainLiteral, Prefixed, Reduced, Chain, Postfixed}
 use Rattle.dpl_language.specs.Tree.{ItemTree, One, RangeItem, Stride, NoStride, By, Links, NoLinks, Link, Posts, NoPosts, Post, PostTree, Brackets, Rounds, Dotted}
 use Rattle.dpl_language.specs.Tree.{MethodTree, Plainly, Dim, Contains, Expand, CellRead, Items, FirstItem, MoreItems, NoItems, NextItem, Exprs, FirstExpr, MoreExprs, NoExprs, NextExpr}
@@ -23,11 +23,13 @@ use Rattle.dpl_rules.specs.Expressions.{expr_breaches, item_breaches, stride_bre
 use Rattle.dpl_rules.proofs.Admission.{first_empty, second_empty}
 use Rattle.dpl_sound.proofs.Given.{judged-gives}
 use Rattle.dpl_sound.proofs.Known.{IsTyped, told-typed, AreKnown, infix-by, post-told, type_of-known, item_type-known}
+use Rattle.dpl_scopes.specs.Slots.{slot_in}
+use Rattle.dpl_scopes.proofs.Slots.{slot_in-lookup}
 use Rattle.dpl_lowered.specs.Shapes.{passes_on, all_pass_on, nests}
 use Rattle.dpl_words.specs.Words.{IntLeaf, TruthLeaf, RangeLeaf}
 use Rattle.dpl_memory.specs.Memory.{VariableKind, PlainKind, DomainKind, TupleKind, ArrayKind}
 use Rattle.dpl_typer.specs.Makers.{is_promoted, prefix_kind, reduced_kind, infix_kind, literal_kind, square_kind, round_kind, word_kind, contains_kind, dim_kind, expand_kind}
-use Rattle.dpl_typer.specs.Leaves.{is_rank, is_tuple_rank, value_kind, kind_by, IsOfKind, MayBePlain}
+use Rattle.dpl_typer.specs.Leaves.{is_rank, is_tuple_rank, value_kind, kind_by, IsOfKind, IsFound}
 use Rattle.dpl_typer.specs.Simple.{IsSimple, IsSimpleItem, IsSimpleStride, AreSimpleLinks, AreSimplePosts, IsSimplePost, AreSimpleItems, AreSimpleMoreItems, AreSimpleExprs, AreSimpleMoreExprs}
 use Rattle.dpl_typer.specs.Elaborated.{AreOfKinds}
 use Rattle.dpl_typer.proofs.OperatorKinds.{IsNew, Gives, kind_if-some, prefix-gives, reduction-gives, infix-gives}
@@ -188,50 +190,58 @@ module _ (scopes : Scopes) (P : Place → Type 0) (names : AreVariables scopes) 
   known x d h = let p = names x d h in (p.type, p.is)
 
   pub record RunnableExpr (e : ExprTree Text) : Type 0 where
-    pub simple : IsSimple (MayBePlain scopes) e
+    pub found : IsSimple (IsFound scopes) e
     pub variable : IsVariable (type_of scopes e)
 
   pub record RunnableItem (i : ItemTree Text) : Type 0 where
-    pub simple : IsSimpleItem (MayBePlain scopes) i
+    pub found : IsSimpleItem (IsFound scopes) i
     pub variable : IsVariable (item_type scopes i)
 
   record RunnableLinks (o : Option ValueType) (rest : Links Text) : Type 0 where
-    simple : AreSimpleLinks (MayBePlain scopes) rest
+    found : AreSimpleLinks (IsFound scopes) rest
     variable : IsVariable (chain_type scopes o rest)
 
   record RunnablePosts (last : Place) (o : Option ValueType) (rest : Posts Text) : Type 0 where
-    simple : AreSimplePosts (MayBePlain scopes) rest
+    found : AreSimplePosts (IsFound scopes) rest
     variable : IsVariable (posts_type scopes last o rest)
 
   record RunnablePost (last : Place) (o : Option ValueType) (p : PostTree Text) : Type 0 where
-    simple : IsSimplePost (MayBePlain scopes) p
+    found : IsSimplePost (IsFound scopes) p
     variable : IsVariable (type_by (post_verdict scopes last p o))
 
   -- between brackets
   pub record RunnableItems (items : Items Text) : Type 0 where
-    pub simple : AreSimpleItems (MayBePlain scopes) items
+    pub found : AreSimpleItems (IsFound scopes) items
     pub kinds : List VariableKind
     pub of_kinds : AreOfKinds kinds (item_parts scopes items)
 
   record RunnableMoreItems (more : MoreItems Text) : Type 0 where
-    simple : AreSimpleMoreItems (MayBePlain scopes) more
+    found : AreSimpleMoreItems (IsFound scopes) more
     kinds : List VariableKind
     of_kinds : AreOfKinds kinds (more_item_parts scopes more)
 
   pub record RunnableExprs (es : Exprs Text) : Type 0 where
-    pub simple : AreSimpleExprs (MayBePlain scopes) es
+    pub found : AreSimpleExprs (IsFound scopes) es
     pub kinds : List VariableKind
     pub of_kinds : AreOfKinds kinds (expr_parts scopes es)
 
   record RunnableMoreExprs (more : MoreExprs Text) : Type 0 where
-    simple : AreSimpleMoreExprs (MayBePlain scopes) more
+    found : AreSimpleMoreExprs (IsFound scopes) more
     kinds : List VariableKind
     of_kinds : AreOfKinds kinds (more_expr_parts scopes more)
 
   -- ---- names
-  declared-variable : (o : Option Declared) → ((d : Declared) → o ≡ Some d → IsNamed d.type) → kind_by (type_declared o) ≡ None → type_declared o ≡ None
-  declared-variable None h e = refl
-  declared-variable (Some d) h e = let p = h d refl in absurd (none-some p.kind (sym e ∙ ap kind_by p.is ∙ p.of_kind))
+  some-found : (o : Option ℕ) → is_some o ≡ true → (slot : ℕ) × (o ≡ Some slot)
+  some-found None e = absurd cc
+  some-found (Some slot) e = (slot, refl)
+
+  -- one that has a type is in sight
+  name-found : (x : Placed Text) (o : Option Declared) → lookup scopes x.name ≡ o → IsTyped (type_by (name_verdict x.at o)) → IsFound scopes x.name
+  name-found x None e p = absurd (none-some p.0 p.1)
+  name-found x (Some d) e p =
+      let named = names x.name d e in
+      let slot = some-found (slot_in scopes x.name) (slot_in-lookup scopes x.name ∙ ap is_some e) in
+      (named.kind, slot.0, ap (λ o. kind_by (type_declared o)) e ∙ ap kind_by named.is ∙ named.of_kind, slot.1)
 
   name-variable : (at : Place) (o : Option Declared) → ((d : Declared) → o ≡ Some d → IsNamed d.type) → IsTyped (type_by (name_verdict at o)) → IsVariable (type_by (name_verdict at o))
   name-variable at None h p = absurd (none-some p.0 p.1)
@@ -244,22 +254,22 @@ module _ (scopes : Scopes) (P : Place → Type 0) (names : AreVariables scopes) 
 
   mutual
     pub runnable : (e : ExprTree Text) → ExprSpelt P ⊥ e → UntaskedExpr e → expr_breaches scopes e ≡ [] → RunnableExpr e
-    runnable (Number at n) s c h = record { simple = tt; variable = record { kind = PlainKind IntLeaf; type = an_int; is = refl; of_kind = refl } }
-    runnable (TruthWord at b) s c h = record { simple = tt; variable = record { kind = PlainKind TruthLeaf; type = a_bool; is = refl; of_kind = refl } }
+    runnable (Number at n) s c h = record { found = tt; variable = record { kind = PlainKind IntLeaf; type = an_int; is = refl; of_kind = refl } }
+    runnable (TruthWord at b) s c h = record { found = tt; variable = record { kind = PlainKind TruthLeaf; type = a_bool; is = refl; of_kind = refl } }
     runnable (Named x) s c h = record {
-      simple = declared-variable (lookup scopes x.name) (names x.name);
+      found = name-found x (lookup scopes x.name) refl (type_of-known scopes known (Named x) h);
       variable = name-variable x.at (lookup scopes x.name) (names x.name) (type_of-known scopes known (Named x) h);
     }
     runnable (LocalesWord at) s c h = absurd c
     runnable (LocaleCount at) s c h = absurd c
     runnable (HereWord at) s c h = absurd c
-    runnable (Grouped from item upto) s c h = let i = runnable_item item s.1 c h in record { simple = i.simple; variable = i.variable }
+    runnable (Grouped from item upto) s c h = let i = runnable_item item s.1 c h in record { found = i.found; variable = i.variable }
     runnable (DomainLiteral from items upto) s c h =
         let verdict = ranges_verdict from (item_parts scopes items) in
         let typed = type_of-known scopes known (DomainLiteral from items upto) h in
         let ranges = runnable_items items s.1 c (first_empty (items_breaches scopes items) (broken_by verdict) h) in
         record {
-          simple = ranges.simple;
+          found = ranges.found;
           variable = gives-variable (literal_kind ranges.kinds) (type_by verdict)
               (literal-gives from ranges.kinds (item_parts scopes items) ranges.of_kinds (literal-rank scopes items (few from (item_parts scopes items) typed))) typed;
         }
@@ -268,7 +278,7 @@ module _ (scopes : Scopes) (P : Place → Type 0) (names : AreVariables scopes) 
         let operand = runnable e s.1 c (first_empty (expr_breaches scopes e) (broken_by verdict) h) in
         let kind = operand.variable.kind in
         record {
-          simple = operand.simple;
+          found = operand.found;
           variable = gives-variable (prefix_kind op kind) (type_by verdict)
               (prefix-gives op at kind (type_of scopes e) (variable-kind (type_of scopes e) operand.variable))
               (type_of-known scopes known (Prefixed at op e) h);
@@ -278,7 +288,7 @@ module _ (scopes : Scopes) (P : Place → Type 0) (names : AreVariables scopes) 
         let operand = runnable e s.2 c (first_empty (expr_breaches scopes e) (broken_by verdict) h) in
         let kind = operand.variable.kind in
         record {
-          simple = operand.simple;
+          found = operand.found;
           variable = gives-variable (reduced_kind op kind) (type_by verdict)
               (reduction-gives op at kind (type_of scopes e) (variable-kind (type_of scopes e) operand.variable))
               (type_of-known scopes known (Reduced at op word e) h);
@@ -287,7 +297,7 @@ module _ (scopes : Scopes) (P : Place → Type 0) (names : AreVariables scopes) 
         let told = chain_breaches scopes (type_of scopes e) rest in
         let first = runnable e s.1 c.0 (first_empty (expr_breaches scopes e) told h) in
         let others = runnable_links rest (type_of scopes e) first.variable s.2 c.1 (second_empty (expr_breaches scopes e) told h) in
-        record { simple = (first.simple, others.simple, one_level-nests rest s.0); variable = others.variable }
+        record { found = (first.found, others.found, one_level-nests rest s.0); variable = others.variable }
     runnable (Postfixed e posts) s c h =
         let own = none_where (bare_locales e) (expr_breaches scopes e) in
         let told = posts_breaches scopes (last_of e) (locales_or (bare_locales e) (type_of scopes e)) posts in
@@ -296,12 +306,12 @@ module _ (scopes : Scopes) (P : Place → Type 0) (names : AreVariables scopes) 
         let all = runnable_posts posts (last_of e) (type_of scopes e) base.variable s.2 c.1
         (subst (λ o. posts_breaches scopes (last_of e) (locales_or o (type_of scopes e)) posts ≡ []) none (second_empty own told h)) in
         record {
-          simple = (base.simple, all.simple, s.0);
+          found = (base.found, all.found, s.0);
           variable = subst (λ o. IsVariable (posts_type scopes (last_of e) (locales_or o (type_of scopes e)) posts)) (sym none) all.variable;
         }
 
     pub runnable_item : (i : ItemTree Text) → ItemSpelt P ⊥ i → UntaskedItem i → item_breaches scopes i ≡ [] → RunnableItem i
-    runnable_item (One e) s c h = let x = runnable e s c h in record { simple = x.simple; variable = x.variable }
+    runnable_item (One e) s c h = let x = runnable e s c h in record { found = x.found; variable = x.variable }
     runnable_item (RangeItem low at dots high by) s c h =
         let verdict = range_item_verdict scopes (part (first_of low) (type_of scopes low)) (part (first_of high) (type_of scopes high)) by in
         let ends = expr_breaches scopes low ++ expr_breaches scopes high in
@@ -311,17 +321,17 @@ module _ (scopes : Scopes) (P : Place → Type 0) (names : AreVariables scopes) 
         let y = runnable high s.3 c.1 (second_empty (expr_breaches scopes low) (expr_breaches scopes high) both_ends) in
         let z = runnable_stride by s.4 c.2 (second_empty ends (stride_breaches scopes by) parts) in
         record {
-          simple = (x.simple, y.simple, z);
+          found = (x.found, y.found, z);
           variable = new-variable (PlainKind RangeLeaf) (type_by verdict)
               (range_item-new scopes (part (first_of low) (type_of scopes low)) (part (first_of high) (type_of scopes high)) by) (item_type-known scopes known (RangeItem low at dots high by) h);
         }
 
-    runnable_stride : (by : Stride Text) → StrideSpelt P ⊥ by → UntaskedStride by → stride_breaches scopes by ≡ [] → IsSimpleStride (MayBePlain scopes) by
+    runnable_stride : (by : Stride Text) → StrideSpelt P ⊥ by → UntaskedStride by → stride_breaches scopes by ≡ [] → IsSimpleStride (IsFound scopes) by
     runnable_stride NoStride s c h = tt
-    runnable_stride (By at e) s c h = (runnable e s.1 c h).simple
+    runnable_stride (By at e) s c h = (runnable e s.1 c h).found
 
     runnable_links : (rest : Links Text) (o : Option ValueType) → IsVariable o → LinksSpelt P ⊥ rest → UntaskedLinks rest → chain_breaches scopes o rest ≡ [] → RunnableLinks o rest
-    runnable_links NoLinks o p s c h = record { simple = tt; variable = p }
+    runnable_links NoLinks o p s c h = record { found = tt; variable = p }
     runnable_links (Link at op e rest) o p s c h =
         let verdict = infix_verdict at op o (type_of scopes e) in
         let others = chain_breaches scopes (type_by verdict) rest in
@@ -332,10 +342,10 @@ module _ (scopes : Scopes) (P : Place → Type 0) (names : AreVariables scopes) 
         let next = gives-variable (infix_kind op p.kind q.kind) (type_by verdict)
         (infix-gives op at p.kind q.kind o (type_of scopes e) (variable-kind o p) (variable-kind (type_of scopes e) q)) typed in
         let more = runnable_links rest (type_by verdict) next s.2 c.1 (second_empty (expr_breaches scopes e ++ broken_by verdict) others h) in
-        record { simple = (right.simple, more.simple); variable = more.variable }
+        record { found = (right.found, more.found); variable = more.variable }
 
     runnable_posts : (rest : Posts Text) (last : Place) (o : Option ValueType) → IsVariable o → PostsSpelt P ⊥ rest → UntaskedPosts rest → posts_breaches scopes last o rest ≡ [] → RunnablePosts last o rest
-    runnable_posts NoPosts last o p s c h = record { simple = tt; variable = p }
+    runnable_posts NoPosts last o p s c h = record { found = tt; variable = p }
     runnable_posts (Post q rest) last o p s c h =
         let verdict = post_verdict scopes last q o in
         let others = posts_breaches scopes (last_of_post q) (type_by verdict) rest in
@@ -345,21 +355,21 @@ module _ (scopes : Scopes) (P : Place → Type 0) (names : AreVariables scopes) 
         let one = runnable_post q last o p s.0 c.0 parts typed in
         let more = runnable_posts rest (last_of_post q) (type_by verdict) one.variable s.1 c.1
         (second_empty (post_breaches scopes q ++ broken_by verdict) others h) in
-        record { simple = (one.simple, more.simple); variable = more.variable }
+        record { found = (one.found, more.found); variable = more.variable }
 
     runnable_post : (q : PostTree Text) (last : Place) (o : Option ValueType) → IsVariable o → PostSpelt P ⊥ q → UntaskedPost q → post_breaches scopes q ≡ [] → IsTyped (type_by (post_verdict scopes last q o))
         → RunnablePost last o q
     runnable_post (Brackets from items upto) last o p s c h typed =
         let between = runnable_items items s.1 c h in
         record {
-          simple = between.simple;
+          found = between.found;
           variable = gives-variable (square_kind true p.kind between.kinds) _
               (square-gives last from (item_parts scopes items) true p.kind between.kinds o (variable-base o p) between.of_kinds) typed;
         }
     runnable_post (Rounds from es upto) last o p s c h typed =
         let between = runnable_exprs es s.1 c h in
         record {
-          simple = between.simple;
+          found = between.found;
           variable = gives-variable (round_kind true p.kind between.kinds) _
               (round-gives last from (expr_parts scopes es) true p.kind between.kinds o (variable-base o p) between.of_kinds) typed;
         }
@@ -368,24 +378,24 @@ module _ (scopes : Scopes) (P : Place → Type 0) (names : AreVariables scopes) 
     runnable_method : (dot : Place) (m : MethodTree Text) (last : Place) (o : Option ValueType) → IsVariable o → MethodSpelt P ⊥ m → UntaskedMethod m → method_breaches scopes m ≡ []
         → IsTyped (type_by (post_verdict scopes last (Dotted dot m) o)) → RunnablePost last o (Dotted dot m)
     runnable_method dot (Plainly at w) last o p s c h typed = record {
-      simple = tt;
+      found = tt;
       variable = gives-variable (word_kind w true p.kind) _ (word-gives at w true p.kind o (variable-base o p)) typed;
     }
     runnable_method dot (Dim at from rank_at d upto) last o p s c h typed = record {
-      simple = tt;
+      found = tt;
       variable = gives-variable (dim_kind d p.kind) _ (dim-gives at rank_at d true p.kind o (variable-base o p)) typed;
     }
     runnable_method dot (Contains at from es upto) last o p s c h typed =
         let index = runnable_exprs es s.2 c h in
         record {
-          simple = index.simple;
+          found = index.found;
           variable = gives-variable (contains_kind p.kind index.kinds) _
               (contains-gives last from (expr_parts scopes es) at true p.kind index.kinds o (variable-base o p) index.of_kinds) typed;
         }
     runnable_method dot (Expand at from e upto) last o p s c h typed =
         let by = runnable e s.2 c h in
         record {
-          simple = by.simple;
+          found = by.found;
           variable = gives-variable (expand_kind p.kind by.variable.kind) _
               (expand-gives at (first_of e) true p.kind by.variable.kind o (type_of scopes e) (variable-base o p) (variable-kind (type_of scopes e) by.variable)) typed;
         }
@@ -396,24 +406,24 @@ module _ (scopes : Scopes) (P : Place → Type 0) (names : AreVariables scopes) 
     runnable_items (FirstItem i more) s c h =
         let first = runnable_item i s.0 c.0 (first_empty (item_breaches scopes i) (more_items_breaches scopes more) h) in
         let others = runnable_more_items more s.1 c.1 (second_empty (item_breaches scopes i) (more_items_breaches scopes more) h) in
-        record { simple = (first.simple, others.simple); kinds = first.variable.kind ∷ others.kinds; of_kinds = (variable-kind (item_type scopes i) first.variable, others.of_kinds) }
+        record { found = (first.found, others.found); kinds = first.variable.kind ∷ others.kinds; of_kinds = (variable-kind (item_type scopes i) first.variable, others.of_kinds) }
 
     runnable_more_items : (more : MoreItems Text) → MoreItemsSpelt P ⊥ more → UntaskedMoreItems more → more_items_breaches scopes more ≡ [] → RunnableMoreItems more
-    runnable_more_items NoItems s c h = record { simple = tt; kinds = []; of_kinds = tt }
+    runnable_more_items NoItems s c h = record { found = tt; kinds = []; of_kinds = tt }
     runnable_more_items (NextItem comma i more) s c h =
         let first = runnable_item i s.1 c.0 (first_empty (item_breaches scopes i) (more_items_breaches scopes more) h) in
         let others = runnable_more_items more s.2 c.1 (second_empty (item_breaches scopes i) (more_items_breaches scopes more) h) in
-        record { simple = (first.simple, others.simple); kinds = first.variable.kind ∷ others.kinds; of_kinds = (variable-kind (item_type scopes i) first.variable, others.of_kinds) }
+        record { found = (first.found, others.found); kinds = first.variable.kind ∷ others.kinds; of_kinds = (variable-kind (item_type scopes i) first.variable, others.of_kinds) }
 
     pub runnable_exprs : (es : Exprs Text) → ExprsSpelt P ⊥ es → UntaskedExprs es → exprs_breaches scopes es ≡ [] → RunnableExprs es
     runnable_exprs (FirstExpr e more) s c h =
         let first = runnable e s.0 c.0 (first_empty (expr_breaches scopes e) (more_exprs_breaches scopes more) h) in
         let others = runnable_more_exprs more s.1 c.1 (second_empty (expr_breaches scopes e) (more_exprs_breaches scopes more) h) in
-        record { simple = (first.simple, others.simple); kinds = first.variable.kind ∷ others.kinds; of_kinds = (variable-kind (type_of scopes e) first.variable, others.of_kinds) }
+        record { found = (first.found, others.found); kinds = first.variable.kind ∷ others.kinds; of_kinds = (variable-kind (type_of scopes e) first.variable, others.of_kinds) }
 
     runnable_more_exprs : (more : MoreExprs Text) → MoreExprsSpelt P ⊥ more → UntaskedMoreExprs more → more_exprs_breaches scopes more ≡ [] → RunnableMoreExprs more
-    runnable_more_exprs NoExprs s c h = record { simple = tt; kinds = []; of_kinds = tt }
+    runnable_more_exprs NoExprs s c h = record { found = tt; kinds = []; of_kinds = tt }
     runnable_more_exprs (NextExpr comma e more) s c h =
         let first = runnable e s.1 c.0 (first_empty (expr_breaches scopes e) (more_exprs_breaches scopes more) h) in
         let others = runnable_more_exprs more s.2 c.1 (second_empty (expr_breaches scopes e) (more_exprs_breaches scopes more) h) in
-        record { simple = (first.simple, others.simple); kinds = first.variable.kind ∷ others.kinds; of_kinds = (variable-kind (type_of scopes e) first.variable, others.of_kinds) }
+        record { found = (first.found, others.found); kinds = first.variable.kind ∷ others.kinds; of_kinds = (variable-kind (type_of scopes e) first.variable, others.of_kinds) }

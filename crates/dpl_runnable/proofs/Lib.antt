@@ -1,5 +1,6 @@
 -- Expressions, and what stands behind declarations and in loops.
 pub mod Expressions
+pub mod Named
 pub mod Scopes
 -- The parts of statements.
 pub mod Owed
@@ -15,3 +16,16 @@ pub mod Around
 -- Programs, and what the grammar says of them.
 pub mod Statements
 pub mod Spelled
+-- What is in sight with names resolved, and what the command line owes it.
+pub mod Scoped
+pub mod Configs
+pub mod Singles
+-- The names of a program that runs resolve.
+pub mod Headers
+pub mod Turned
+pub mod Fitting
+pub mod Wholes
+pub mod Suiting
+pub mod Declaring
+pub mod Changing
+pub mod Resolving

@@ -25,16 +25,17 @@ use Rattle.dpl_rules.specs.Maps.{LowTree, posts_low, front_of, owed_rank, box_ra
 use Rattle.dpl_rules.specs.Declarations.{type_rank, is_untyped, declared_type, agreeing, unmapped, init_part, create_breaches, type_breaches, untyped_breaches, typed_breaches, typed_initial, written_breaches, type_given}
 use Rattle.dpl_rules.proofs.Admission.{first_empty, second_empty}
 use Rattle.dpl_memory.specs.Memory.{VariableKind, DomainKind}
-use Rattle.dpl_typer.specs.Leaves.{is_rank, value_kind, kind_by, MayBePlain}
+use Rattle.dpl_typer.specs.Leaves.{is_rank, value_kind, kind_by, IsFound}
 use Rattle.dpl_typer.specs.Simple.{IsSimple, AreSimpleMoreExprs}
 use Rattle.dpl_typer.proofs.OperatorKinds.{kind-same, kind_if-some}
 use Rattle.dpl_nodes.specs.Spots.{IsNear}
 use Rattle.dpl_placing.specs.Starts.{behind, unposted, bound_word, IsLow, more_exprs, IsSimpleStart, are_ints, is_least, is_start}
-use Rattle.dpl_placing.specs.Named.{HasMap}
-use Rattle.dpl_placing.specs.Roots.{HasMapIn, HaveMaps}
+use Rattle.dpl_placing.specs.Named.{IsSimpleMap, HasMap}
+use Rattle.dpl_placing.specs.Roots.{IsFoundIn, HasMapIn, AreFoundMaps, HaveMaps}
 use Rattle.dpl_placing.proofs.Lows.{low-of, whole-simple}
 use Rattle.dpl_runnable.specs.Kinds.{IsVariable, AreVariables}
 use Rattle.dpl_runnable.specs.Runnable.{SaysNoMapInit, IsMappedBeside}
+use Rattle.dpl_runnable.proofs.Named.{map-plain}
 use Rattle.dpl_runnable.proofs.Expressions.{not_bare, runnable, runnable_item}
 use Rattle.dpl_runnable.proofs.Owed.{owed-holds, owed_type-holds, is_domain-kind}
 use Rattle.dpl_runnable.proofs.Arrays.{created-kind}
@@ -99,6 +100,10 @@ front-untasked NoPosts c = tt
 front-untasked (Post p NoPosts) c = tt
 front-untasked (Post p (Post q rest)) c = (c.0, front-untasked (Post q rest) c.1)
 
+-- of a map that may be left out: it has a typed form, and the names in it are in sight
+abbrev IsMapped : Scopes → Option (MappedTree Text) → Type 0
+IsMapped scopes o = HasMapIn scopes o × IsFoundIn scopes o
+
 -- ---- NO MAP where the rules want none
 module _ (scopes : Scopes) where
   -- a created domain stands beside no type
@@ -114,33 +119,33 @@ module _ (scopes : Scopes) where
       absurd cc
   typed-unmapped o (CreateInit m) h = absurd (untyped-created o m h)
 
-  no_map-typed : (init : InitTree Text) → SaysNoMapInit init → HasMapIn scopes (init_map init)
-  no_map-typed (ItemInit item None) h = tt
+  no_map-typed : (init : InitTree Text) → SaysNoMapInit init → IsMapped scopes (init_map init)
+  no_map-typed (ItemInit item None) h = (tt, tt)
   no_map-typed (ItemInit item (Some m)) h = absurd h
-  no_map-typed (CreateInit c) h = tt
+  no_map-typed (CreateInit c) h = (tt, tt)
 
 module _ (scopes : Scopes) (names : AreVariables scopes) where
   -- ---- WHERE MAPS START
-  plain-start : (rank : Option ℕ) (word : Place) (e : ExprTree Text) → ExprSpelt IsNear ⊥ e → UntaskedExpr e → plain_start scopes rank word e ≡ [] → IsSimple (MayBePlain scopes) e × (has is_int (type_of scopes e) ≡ true)
+  plain-start : (rank : Option ℕ) (word : Place) (e : ExprTree Text) → ExprSpelt IsNear ⊥ e → UntaskedExpr e → plain_start scopes rank word e ≡ [] → IsSimple (IsFound scopes) e × (has is_int (type_of scopes e) ≡ true)
   plain-start rank word e s c h =
       let own = expr_breaches scopes e in
       let int = int_start rank word (first_of e) (type_of scopes e) in
       let x = runnable scopes IsNear names e s c (first_empty own int h) in
-      (x.simple, int-started rank word (first_of e) (type_of scopes e) x.variable.type x.variable.is (second_empty own int h))
+      (x.found, int-started rank word (first_of e) (type_of scopes e) x.variable.type x.variable.is (second_empty own int h))
 
   module _ (rank : Option ℕ) (word : Place) (b : ExprTree Text) (ps : Posts Text) (s : ExprSpelt IsNear ⊥ (Postfixed b ps)) (c : UntaskedExpr (Postfixed b ps)) where
     abbrev front : ExprTree Text
     front = Postfixed b (front_of ps)
 
     abbrev Starts : Option LowTree → Type 0
-    Starts o = IsSimple (MayBePlain scopes) (Postfixed b ps) × ((is_least scopes o || has is_int (type_of scopes (Postfixed b ps))) ≡ true)
+    Starts o = IsSimple (IsFound scopes) (Postfixed b ps) × ((is_least scopes o || has is_int (type_of scopes (Postfixed b ps))) ≡ true)
 
     -- the base alone, or with what stands behind it
-    behind-simple : (qs : Posts Text) → PostsSpelt IsNear ⊥ qs → UntaskedPosts qs → expr_breaches scopes (Postfixed b qs) ≡ [] → IsSimple (MayBePlain scopes) (behind b qs)
+    behind-simple : (qs : Posts Text) → PostsSpelt IsNear ⊥ qs → UntaskedPosts qs → expr_breaches scopes (Postfixed b qs) ≡ [] → IsSimple (IsFound scopes) (behind b qs)
     behind-simple NoPosts s1 c1 h =
         let own = first_empty (none_where (bare_locales b) (expr_breaches scopes b)) [] h in
-        (runnable scopes IsNear names b s.1 c.0 (subst (λ o. none_where o (expr_breaches scopes b) ≡ []) (not_bare b c.0) own)).simple
-    behind-simple (Post p rest) s1 c1 h = (runnable scopes IsNear names (Postfixed b (Post p rest)) (tt, s.1, s1) (c.0, c1) h).simple
+        (runnable scopes IsNear names b s.1 c.0 (subst (λ o. none_where o (expr_breaches scopes b) ≡ []) (not_bare b c.0) own)).found
+    behind-simple (Post p rest) s1 c1 h = (runnable scopes IsNear names (Postfixed b (Post p rest)) (tt, s.1, s1) (c.0, c1) h).found
 
     behind-type : (qs : Posts Text) → type_of scopes (behind b qs) ≡ type_of scopes (Postfixed b qs)
     behind-type NoPosts = sym (ap (λ o. locales_or o (type_of scopes b)) (not_bare b c.0))
@@ -156,13 +161,13 @@ module _ (scopes : Scopes) (names : AreVariables scopes) where
         let simple = behind-simple (front_of ps) (front-spelt ps s.2) (front-untasked ps c.1) told in
         let low = subst (IsLow front l.at (bound_word l.bound)) (sym is) (same, refl, refl) in
         let least = ap (λ y. has is_domain (type_of scopes (unposted y))) same ∙ ap (has is_domain) (behind-type (front_of ps)) ∙ ap (λ y. has is_domain (type_of scopes y)) (sym same) ∙ domain-has (type_of scopes l.of) d domain in
-        (whole-simple (MayBePlain scopes) b ps front l.at (bound_word l.bound) low simple, or-left (is_least scopes (Some l)) (has is_int (type_of scopes (Postfixed b ps))) least)
+        (whole-simple (IsFound scopes) b ps front l.at (bound_word l.bound) low simple, or-left (is_least scopes (Some l)) (has is_int (type_of scopes (Postfixed b ps))) least)
 
     at_low : (o : Option LowTree) → posts_low ps front ≡ o → low_start scopes rank word (Postfixed b ps) o ≡ [] → Starts o
     at_low None is h = plain-start rank word (Postfixed b ps) s c h
     at_low (Some l) is h = at_domain l is (option_and_then domain_of (type_of scopes l.of)) refl h
 
-  expr-start : (rank : Option ℕ) (word : Place) (e : ExprTree Text) → ExprSpelt IsNear ⊥ e → UntaskedExpr e → start_breaches scopes rank word (StartExpr e) ≡ [] → IsSimple (MayBePlain scopes) e × (is_start scopes (StartExpr e) ≡ true)
+  expr-start : (rank : Option ℕ) (word : Place) (e : ExprTree Text) → ExprSpelt IsNear ⊥ e → UntaskedExpr e → start_breaches scopes rank word (StartExpr e) ≡ [] → IsSimple (IsFound scopes) e × (is_start scopes (StartExpr e) ≡ true)
   expr-start rank word (Number at n) s c h = plain-start rank word (Number at n) s c h
   expr-start rank word (TruthWord at b) s c h = plain-start rank word (TruthWord at b) s c h
   expr-start rank word (Named x) s c h = plain-start rank word (Named x) s c h
@@ -178,26 +183,26 @@ module _ (scopes : Scopes) (names : AreVariables scopes) where
 
   -- a tuple's expressions are ints
   int-runnable : (e : ExprTree Text) (rest : List Breach) → ExprSpelt IsNear ⊥ e → UntaskedExpr e → (expr_breaches scopes e ++ owed_type is_int (first_of e) (type_of scopes e) ++ rest) ≡ []
-      → IsSimple (MayBePlain scopes) e × (has is_int (type_of scopes e) ≡ true) × (rest ≡ [])
+      → IsSimple (IsFound scopes) e × (has is_int (type_of scopes e) ≡ true) × (rest ≡ [])
   int-runnable e rest s c h =
       let own = expr_breaches scopes e in
       let int = owed_type is_int (first_of e) (type_of scopes e) in
       let both = first_empty (own ++ int) rest h in
       let x = runnable scopes IsNear names e s c (first_empty own int both) in
-      (x.simple, ap (has is_int) x.variable.is ∙ owed_type-holds is_int (first_of e) (type_of scopes e) x.variable.type x.variable.is (second_empty own int both), second_empty (own ++ int) rest h)
+      (x.found, ap (has is_int) x.variable.is ∙ owed_type-holds is_int (first_of e) (type_of scopes e) x.variable.type x.variable.is (second_empty own int both), second_empty (own ++ int) rest h)
 
   abbrev others_of : List (AfterComma (ExprTree Text)) → List (ExprTree Text)
   others_of ys = map {A = AfterComma (ExprTree Text)} {B = ExprTree Text} (λ y. y.part) ys
 
   more-ints : (ys : List (AfterComma (ExprTree Text))) → Each (PartSpelt IsNear ⊥ (ExprSpelt IsNear ⊥)) ys → UntaskedOthers UntaskedExpr ys → int_breaches scopes (others_of ys) ≡ []
-      → AreSimpleMoreExprs (MayBePlain scopes) (more_exprs ys) × (are_ints (more_expr_parts scopes (more_exprs ys)) ≡ true) × (length (more_expr_parts scopes (more_exprs ys)) ≡ length (others_of ys))
+      → AreSimpleMoreExprs (IsFound scopes) (more_exprs ys) × (are_ints (more_expr_parts scopes (more_exprs ys)) ≡ true) × (length (more_expr_parts scopes (more_exprs ys)) ≡ length (others_of ys))
   more-ints [] s c h = (tt, refl, refl)
   more-ints (y ∷ ys) s c h =
       let one = int-runnable y.part (int_breaches scopes (others_of ys)) s.0.1 c.0 h in
       let more = more-ints ys s.1 c.1 one.2 in
       ((one.0, more.0), both-true (has is_int (type_of scopes y.part)) (are_ints (more_expr_parts scopes (more_exprs ys))) one.1 more.1, ap suc more.2)
 
-  start-runnable : (rank : ℕ) (word : Place) (x : StartTree Text) → is_rank rank ≡ true → StartSpelt IsNear ⊥ x → UntaskedStart x → start_breaches scopes (Some rank) word x ≡ [] → IsSimpleStart (MayBePlain scopes) x × (is_start scopes x ≡ true)
+  start-runnable : (rank : ℕ) (word : Place) (x : StartTree Text) → is_rank rank ≡ true → StartSpelt IsNear ⊥ x → UntaskedStart x → start_breaches scopes (Some rank) word x ≡ [] → IsSimpleStart (IsFound scopes) x × (is_start scopes x ≡ true)
   start-runnable rank word (StartExpr e) ranked s c h = expr-start (Some rank) word e s c h
   start-runnable rank word (StartTuple from es upto) ranked s c h =
       let ints = int_breaches scopes (es.first ∷ others_of es.others) in
@@ -211,35 +216,35 @@ module _ (scopes : Scopes) (names : AreVariables scopes) where
       )
 
   -- ---- MAPS
-  map-typed : (rank : ℕ) (m : MapTree Text) → is_rank rank ≡ true → MapSpelt IsNear ⊥ m → UntaskedMap m → map_breaches scopes (Some rank) m ≡ [] → HasMap scopes m
+  map-typed : (rank : ℕ) (m : MapTree Text) → is_rank rank ≡ true → MapSpelt IsNear ⊥ m → UntaskedMap m → map_breaches scopes (Some rank) m ≡ [] → HasMap scopes m × IsSimpleMap (IsFound scopes) m
   map-typed rank (BlockMap m) ranked s c h =
       let own = item_breaches scopes m.box in
       let box = box_of (Some rank) m.word (first_of_item m.box) (item_type scopes m.box) in
       let x = runnable_item scopes IsNear names m.box s.4 c (first_empty own box h) in
-      (s, x.simple, box-domain (Some rank) m.word (first_of_item m.box) (item_type scopes m.box) x.variable.type x.variable.is (second_empty own box h))
+      ((s, map-plain scopes (BlockMap m) x.found, box-domain (Some rank) m.word (first_of_item m.box) (item_type scopes m.box) x.variable.type x.variable.is (second_empty own box h)), x.found)
   map-typed rank (CyclicMap m) ranked s c h =
       let start = start-runnable rank m.word m.start ranked s.4 c h in
-      (s, start.0, start.1)
+      ((s, map-plain scopes (CyclicMap m) start.0, start.1), start.0)
   map-typed rank (BlockCyclicMap m) ranked s c h =
       let start_told = start_breaches scopes (Some rank) m.word m.start in
       let size_told = start_breaches scopes (Some rank) m.word m.size in
       let start = start-runnable rank m.word m.start ranked s.4 c.0 (first_empty start_told size_told h) in
       let size = start-runnable rank m.word m.size ranked s.7 c.1 (second_empty start_told size_told h) in
-      (s, (start.0, size.0), both-true (is_start scopes m.start) (is_start scopes m.size) start.1 size.1)
+      ((s, map-plain scopes (BlockCyclicMap m) (start.0, size.0), both-true (is_start scopes m.start) (is_start scopes m.size) start.1 size.1), (start.0, size.0))
 
-  mapped-typed : (rank : ℕ) (o : Option (MappedTree Text)) → is_rank rank ≡ true → IfThere (MappedSpelt IsNear ⊥) o → UntaskedIf UntaskedMapped o → mapped_breaches scopes (Some rank) o ≡ [] → HasMapIn scopes o
-  mapped-typed rank None ranked s c h = tt
+  mapped-typed : (rank : ℕ) (o : Option (MappedTree Text)) → is_rank rank ≡ true → IfThere (MappedSpelt IsNear ⊥) o → UntaskedIf UntaskedMapped o → mapped_breaches scopes (Some rank) o ≡ [] → IsMapped scopes o
+  mapped-typed rank None ranked s c h = (tt, tt)
   mapped-typed rank (Some m) ranked s c h = map-typed rank m.map ranked s.1 c h
 
   -- ---- DECLARATIONS
   -- the map of an initial value without a type is a domain's
   domain-mapped : (m : MappedTree Text) (o : Option ValueType) (t : ValueType) → o ≡ Some t → (rank : ℕ) × (s : Bool) × (t ≡ Domain rank s) × (is_rank rank ≡ true) → MappedSpelt IsNear ⊥ m → UntaskedMapped m
-      → mapped_breaches scopes (type_rank o) (Some m) ≡ [] → HasMapIn scopes (Some m)
+      → mapped_breaches scopes (type_rank o) (Some m) ≡ [] → IsMapped scopes (Some m)
   domain-mapped m o t is (rank, strided, of_rank, ranked) s c h =
       mapped-typed rank (Some m) ranked s c (subst (λ o. mapped_breaches scopes (type_rank o) (Some m) ≡ []) (is ∙ ap (λ t. Some t) of_rank) h)
 
-  untyped-maps : (init : InitTree Text) → InitSpelt IsNear ⊥ init → UntaskedInit init → untyped_breaches scopes init ≡ [] → HasMapIn scopes (init_map init)
-  untyped-maps (ItemInit item None) s c h = tt
+  untyped-maps : (init : InitTree Text) → InitSpelt IsNear ⊥ init → UntaskedInit init → untyped_breaches scopes init ≡ [] → IsMapped scopes (init_map init)
+  untyped-maps (ItemInit item None) s c h = (tt, tt)
   untyped-maps (ItemInit item (Some m)) s c h =
       let side = side_breaches scopes item in
       let kept = owed_type (is_untyped (Some m)) (first_of_item item) (side_part scopes item).type in
@@ -249,28 +254,30 @@ module _ (scopes : Scopes) (names : AreVariables scopes) where
       let is = side-item scopes IsNear names item ∙ p.is in
       let domain = owed_type-holds (is_untyped (Some m)) (first_of_item item) (side_part scopes item).type p.type is (second_empty side kept front) in
       domain-mapped m (side_part scopes item).type p.type is (domain-rank p.type p.kind p.of_kind domain) s.1 c.1 (second_empty (side ++ kept) told h)
-  untyped-maps (CreateInit m) s c h = tt
+  untyped-maps (CreateInit m) s c h = (tt, tt)
 
-  typed-maps : (t : TypeTree Text) → TypeSpelt IsNear ⊥ t → UntaskedType t → type_breaches scopes t ≡ [] → HasMapIn scopes (type_map (Some t))
-  typed-maps (ScalarType at k) s c h = tt
-  typed-maps (SyncType at kind_at k) s c h = tt
+  typed-maps : (t : TypeTree Text) → TypeSpelt IsNear ⊥ t → UntaskedType t → type_breaches scopes t ≡ [] → IsMapped scopes (type_map (Some t))
+  typed-maps (ScalarType at k) s c h = (tt, tt)
+  typed-maps (SyncType at kind_at k) s c h = (tt, tt)
   typed-maps (DomainType d) s c h =
       let ranked = domain_type-rank scopes IsNear names d h in
       mapped-typed d.rank d.mapped (one_to_three d.rank ranked) s.4 c (second_empty _ (mapped_breaches scopes (Some d.rank) d.mapped) h)
-  typed-maps (ArrayType a) s c h = tt
+  typed-maps (ArrayType a) s c h = (tt, tt)
 
-  initial-maps : (o : Option ValueType) (i : Option (InitialTree Text)) → typed_initial scopes o i ≡ [] → HasMapIn scopes (initial_map i)
-  initial-maps o None h = tt
+  initial-maps : (o : Option ValueType) (i : Option (InitialTree Text)) → typed_initial scopes o i ≡ [] → IsMapped scopes (initial_map i)
+  initial-maps o None h = (tt, tt)
   initial-maps o (Some i) h = no_map-typed scopes i.init (typed-unmapped scopes o i.init h)
 
   pub written-maps : (w : Option (TypedTree Text)) (i : Option (InitialTree Text)) (self : Origin) → IfThere (TypedSpelt IsNear ⊥) w → IfThere (InitialSpelt IsNear ⊥) i → UntaskedIf UntaskedTyped w → UntaskedIf UntaskedInitial i
-      → written_breaches scopes self (written_type w) i ≡ [] → HaveMaps scopes (written_type w) i
-  written-maps None None self r s v c h = (tt, tt)
-  written-maps None (Some i) self r s v c h = (tt, untyped-maps i.init s.1 c h)
+      → written_breaches scopes self (written_type w) i ≡ [] → HaveMaps scopes (written_type w) i × AreFoundMaps scopes (written_type w) i
+  written-maps None None self r s v c h = ((tt, tt), (tt, tt))
+  written-maps None (Some i) self r s v c h = let i = untyped-maps i.init s.1 c h in ((tt, i.0), (tt, i.1))
   written-maps (Some t) i self r s v c h =
       let told = type_breaches scopes t.type in
       let more = typed_initial scopes (declared_type scopes self t.type) i in
-      (typed-maps t.type r.1 v (first_empty told more h), initial-maps (declared_type scopes self t.type) i (second_empty told more h))
+      let types = typed-maps t.type r.1 v (first_empty told more h) in
+      let values = initial-maps (declared_type scopes self t.type) i (second_empty told more h) in
+      ((types.0, values.0), (types.1, values.1))
 
   -- a map stands beside a domain
   untyped-beside : (init : InitTree Text) (p : IsVariable (init_part scopes init).type) → InitSpelt IsNear ⊥ init → UntaskedInit init → untyped_breaches scopes init ≡ [] → (p.kind ≡ DomainKind) ⊎ SaysNoMapInit init

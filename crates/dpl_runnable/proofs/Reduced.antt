@@ -70,7 +70,7 @@ kind-uncombined (ArrayKind l) = tt
 kind-uncombined (CellKind c) = tt
 
 -- a name that is known has a slot
-slot-found : (o : Option Declared) (slot : Option ℕ) (k : VariableKind) → is_some slot ≡ is_some o → kind_by (type_declared o) ≡ Some k → (n : ℕ) × (slot ≡ Some n)
+pub slot-found : (o : Option Declared) (slot : Option ℕ) (k : VariableKind) → is_some slot ≡ is_some o → kind_by (type_declared o) ≡ Some k → (n : ℕ) × (slot ≡ Some n)
 slot-found None slot k both e = absurd (none-some k e)
 slot-found (Some d) None k both e = absurd cc
 slot-found (Some d) (Some n) k both e = (n, refl)

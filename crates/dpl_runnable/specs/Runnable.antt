@@ -22,23 +22,25 @@ use Rattle.dpl_memory.specs.Memory.{VariableKind, PlainKind, DomainKind, TupleKi
 use Rattle.dpl_memory.specs.Resolved.{Bound, text_of, kind_takes, KindCombines}
 use Rattle.dpl_spelling.specs.Spelt.{ExprSpelt, ItemSpelt, ItemsSpelt, ExprsSpelt}
 use Rattle.dpl_nodes.specs.Spots.{IsNear}
-use Rattle.dpl_typer.specs.Leaves.{value_kind, kind_by, type_in, kind_in, MayBePlain}
+use Rattle.dpl_typer.specs.Leaves.{value_kind, kind_by, type_in, kind_in, IsFound, MayBePlain}
 use Rattle.dpl_typer.specs.Shapes.{IsTakenOf, IsTaken}
 use Rattle.dpl_typer.specs.Simple.{IsSimple, IsSimpleItem, AreSimpleItems, AreSimpleExprs}
 use Rattle.dpl_typer.specs.Sights.{bound_in}
 use Rattle.dpl_typer.specs.Makers.{leaf_of}
 use Rattle.dpl_typer.specs.Elaborated.{IsNoIndex}
-use Rattle.dpl_placing.specs.Roots.{HaveMaps}
+use Rattle.dpl_placing.specs.Roots.{AreFoundMaps, HaveMaps}
 use Rattle.dpl_runnable.specs.Kinds.{IsScalarKind, IsDeclaredKind, IsAssignedKind, IsGivenTo}
 
--- EXPRESSIONS of a kind, whose places a fault's word has room for
+-- EXPRESSIONS of a kind, whose names are in sight and whose places a fault's word has room for
 pub record IsExprOf (ss : Scopes) (e : ExprTree Text) (k : VariableKind) : Type 0 where
   pub simple : IsSimple (MayBePlain ss) e
+  pub found : IsSimple (IsFound ss) e
   pub kind : kind_by (type_of ss e) ≡ Some k
   pub near : ExprSpelt IsNear ⊥ e
 
 pub record IsItemOf (ss : Scopes) (i : ItemTree Text) (k : VariableKind) : Type 0 where
   pub simple : IsSimpleItem (MayBePlain ss) i
+  pub found : IsSimpleItem (IsFound ss) i
   pub kind : kind_by (item_type ss i) ≡ Some k
   pub near : ItemSpelt IsNear ⊥ i
 
@@ -49,6 +51,14 @@ IsRunnableType ss (Some (ScalarType at k)) = Unit {0}
 IsRunnableType ss (Some (SyncType at kind_at k)) = ⊥
 IsRunnableType ss (Some (DomainType d)) = (nat_le 1 d.rank && nat_le d.rank 3) ≡ true
 IsRunnableType ss (Some (ArrayType a)) = AreSimpleItems (MayBePlain ss) a.over × ItemsSpelt IsNear ⊥ a.over × IsNear a.from
+
+-- the names between an array's brackets are in sight
+abbrev pub IsFoundType : Scopes → Option (TypeTree Text) → Type 0
+IsFoundType ss None = Unit {0}
+IsFoundType ss (Some (ScalarType at k)) = Unit {0}
+IsFoundType ss (Some (SyncType at kind_at k)) = Unit {0}
+IsFoundType ss (Some (DomainType d)) = Unit {0}
+IsFoundType ss (Some (ArrayType a)) = AreSimpleItems (IsFound ss) a.over
 
 abbrev pub IsDefaultOf : Option (TypeTree Text) → VariableKind → Type 0
 IsDefaultOf None k = ⊥
@@ -63,6 +73,7 @@ created_type ss c = type_by (over_verdict c.from (item_parts ss c.items))
 
 pub record IsCreatedOf (ss : Scopes) (c : CreateTree Text) (k : VariableKind) : Type 0 where
   pub simple : AreSimpleItems (MayBePlain ss) c.items
+  pub found : AreSimpleItems (IsFound ss) c.items
   pub kind : kind_by (created_type ss c) ≡ Some k
   pub near : ItemsSpelt IsNear ⊥ c.items
   pub from : IsNear c.from
@@ -104,9 +115,10 @@ SaysNoMap _ (Some i) = SaysNoMapInit i.init
 abbrev pub IsMappedBeside : Option (TypeTree Text) → Option (InitialTree Text) → VariableKind → Type 0
 IsMappedBeside type i k = (k ≡ DomainKind) ⊎ SaysNoMap type i
 
--- The name is new in its scope, and has a value of its type's kind; and each map has a typed form.
+-- The name is new in its scope, and has a value of its type's kind; each map has a typed form, and names what is in sight.
 pub record IsRunnableDeclare (ss : Scopes) (d : DeclareTree Text) : Type 0 where
   pub type : IsRunnableType ss (written_type d.typed)
+  pub over : IsFoundType ss (written_type d.typed)
   pub near : IsNear d.name.at
   pub kind : VariableKind
   pub initial : IsInitialOf ss (written_type d.typed) d.initial kind
@@ -115,6 +127,7 @@ pub record IsRunnableDeclare (ss : Scopes) (d : DeclareTree Text) : Type 0 where
   pub shaped : (t : ValueType) → (declared_by ss d).type ≡ Some t → IsShapedInitial ss d.initial t
   pub fresh : declared_here ss d.name.name ≡ false
   pub maps : HaveMaps ss (written_type d.typed) d.initial
+  pub found : AreFoundMaps ss (written_type d.typed) d.initial
   pub beside : IsMappedBeside (written_type d.typed) d.initial kind
   pub config : IsConfigOf d.config kind
 
@@ -154,6 +167,7 @@ pub record IsRunnableElement (ss : Scopes) (x : Text) (es : Exprs Text) (op : As
   pub kind : Kind
   pub target : kind_in ss x ≡ Some (ArrayKind kind)
   pub simple : AreSimpleExprs (MayBePlain ss) es
+  pub found : AreSimpleExprs (IsFound ss) es
   pub near : ExprsSpelt IsNear ⊥ es
   pub index : IsNoIndex (expr_parts ss es) → ⊥
   pub item : IsItemOf ss value (PlainKind (leaf_of kind))

@@ -1,6 +1,6 @@
 -- A declaration of an array is planned where its parts are, and its name is in sight behind it.
 -- One that isn't planned doesn't run: it is over no domain, or its elements take no such value.
-use Rattle.std.proofs.Common.{rules, ◌≡◌, ◌<◌, true, Err, None, is_some, refl, sym, ap, ◌∙◌, subst}
+use Rattle.std.proofs.Common.{rules, ◌≡◌, true, Err, None, is_some, refl, sym, ap, ◌∙◌, subst}
 use Rattle.dpl_tree.specs.View.{items_view}
 use Rattle.dpl_tree.specs.Declarations.{optional, initial_view, array_type_view, declare_view}
 use Rattle.dpl_nodes.specs.declared.step.ArrayDeclaration.{ArrayDeclaration}
@@ -8,7 +8,7 @@ use Rattle.dpl_nodes.specs.declared.stop.NoNode.TheVariants as stop
 use Rattle.dpl_nodes.specs.declared.step.Step.{DeclareArray}
 use Rattle.dpl_runnable.specs.Runnable.{IsRunnableType}
 use Rattle.dpl_planner.specs.Arrays.{IsOver, IsArrayInitial}
-use Rattle.dpl_planner.proofs.DeclaredArrays.{none-set, array-declared, runnable-domain, runnable-elements, runnable-kind, runnable-unset, unset}
+use Rattle.dpl_planner.proofs.DeclaredArrays.{none-set, array-declared, runnable-domain, runnable-elements, runnable-kind, runnable-unset}
 use Rattle.dpl_planner.proofs.arrays.declare_array.Goals as goal
 
 pub returns-clause-plans : goal.returns-clause-plans
@@ -24,12 +24,12 @@ returns-clause-plans c =
     (subst (λ (n : ArrayDeclaration). IsOver c.args.plan.now.scopes (items_view c.args.array.now.over) n.over) (sym kept) p.over)
     (subst (λ (n : ArrayDeclaration). IsArrayInitial c.args.plan.now.scopes c.args.array.now.kind (optional initial_view c.args.written.now.initial) n.initial) (sym kept) p.initial)
     (ap (λ (n : ArrayDeclaration). n.at.now) kept ∙ p.at) (ap (λ (n : ArrayDeclaration). n.from.now) kept ∙ p.from)
-    made.fresh (ap (λ (n : ArrayDeclaration). n.slot) kept ∙ made.next) (subst (λ n. n < c.declare.new.self.slots) (sym (ap (λ (n : ArrayDeclaration). n.slot) kept)) made.below) made.slots made.scopes made.intents refl
+    (ap (λ (n : ArrayDeclaration). n.slot) kept ∙ made.next) made.slots made.scopes made.intents refl
 
 pub returns-then-is_some-clause-ill_typed : goal.returns-then-is_some-clause-ill_typed
 returns-then-is_some-clause-ill_typed c = λ e s.
     let set : is_some c.args.written.now.config ≡ true = search rules in
-    unset c.args.written.now.config (runnable-unset c.args.plan.now.scopes (declare_view c.args.written.now) (array_type_view c.args.array.now) c.requires s) set
+    runnable-unset c.args.plan.now.scopes (declare_view c.args.written.now) (array_type_view c.args.array.now) c.requires s set
 
 pub returns-in_err-value_type-clause-ill_typed : goal.returns-in_err-value_type-clause-ill_typed
 returns-in_err-value_type-clause-ill_typed c = λ e s.

@@ -13,14 +13,14 @@ use Rattle.dpl_planner.proofs.arrays.over_one.Goals as goal
 
 pub returns-in-Domain-clause-over : goal.returns-in-Domain-clause-over
 returns-in-Domain-clause-over c =
-    one-over c.args.scopes.now (item_view c.args.written.now) c.in_ok-made.made c.is_bare-bare.result c.over_domain.result (record { node = c.in_ok-made.ensures.node; found = c.in_ok-made.ensures.found }) c.is_bare-bare.ensures
+    one-over c.args.scopes.now (item_view c.args.written.now) c.in_ok-made.made c.is_bare-bare.result c.over_domain.result c.in_ok-made.ensures.node c.is_bare-bare.ensures
     (c.over_domain.ensures ∙ ap (λ t. FirstItem (between c.is_bare-bare.result (typed_item Once t)) NoItems) (sym c.in-Domain.is))
 
 pub returns-in-Range-clause-over : goal.returns-in-Range-clause-over
 returns-in-Range-clause-over c =
     if_ok c.over_range.result
     (λ o node.
-    one-over c.args.scopes.now (item_view c.args.written.now) c.in_ok-made.made c.is_bare-bare.result o (record { node = c.in_ok-made.ensures.node; found = c.in_ok-made.ensures.found }) c.is_bare-bare.ensures
+    one-over c.args.scopes.now (item_view c.args.written.now) c.in_ok-made.made c.is_bare-bare.result o c.in_ok-made.ensures.node c.is_bare-bare.ensures
     (node ∙ ap (λ t. FirstItem (between c.is_bare-bare.result (typed_item Once t)) NoItems) (sym c.in-Range.is)))
     c.over_range.ensures.node
 

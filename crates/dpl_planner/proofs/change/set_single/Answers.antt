@@ -1,4 +1,4 @@
--- An assignment is planned where its name, its operator and its value are.
+-- An assignment is planned where its name and its value are.
 -- One that isn't doesn't run: the kind of its value is that of what is made of it.
 use Rattle.std.proofs.Common.{rules, ◌≡◌, true, Some, Err, sym, ap, ◌∙◌, subst}
 use Rattle.dpl_rules.specs.Expressions.{item_type}
@@ -6,12 +6,11 @@ use Rattle.dpl_tree.specs.View.{name_view, item_view}
 use Rattle.dpl_tree.specs.Statements.{sign_view}
 use Rattle.dpl_memory.specs.Resolved.{kind_takes}
 use Rattle.dpl_nodes.specs.declared.stop.NoNode.TheVariants as stop
-use Rattle.dpl_typer.specs.Leaves.{type_in}
-use Rattle.dpl_runnable.specs.Runnable.{IsReducedBy}
-use Rattle.dpl_planner.specs.Parts.{IsSingleKind, IsChangedKind}
+use Rattle.dpl_runnable.specs.InSight.{IsSingleKind}
+use Rattle.dpl_planner.specs.Parts.{IsChangedKind}
 use Rattle.dpl_planner.specs.Plans.{intents_in}
 use Rattle.dpl_planner.proofs.Changed.{change-plans}
-use Rattle.dpl_planner.proofs.RefusedParts.{some-type, no_kind, single-change, changed-held}
+use Rattle.dpl_planner.proofs.RefusedParts.{no_kind, single-change, changed-held}
 use Rattle.dpl_planner.proofs.change.set_single.Goals as goal
 
 pub returns-in_err-made-clause-ill_typed : goal.returns-in_err-made-clause-ill_typed
@@ -25,24 +24,10 @@ returns-in_err-slot-clause-ill_typed c = λ e s.
     let (changed, same) = single-change c.args.plan.now.scopes (intents_in c.args.plan.now) c.args.name.now.text.now c.args.sign.op (item_view c.args.value.now) c.in_ok-made.made c.requires c.in_ok-made.ensures.kind s.0 in
     c.variable.ensures.ill_typed refused (subst IsSingleKind (sym same) (changed-held s.0.kind changed)) (s.0.target ∙ ap (λ k. Some k) (sym same))
 
-pub returns-in_err-taken-clause-ill_typed : goal.returns-in_err-taken-clause-ill_typed
-returns-in_err-taken-clause-ill_typed c = λ e s.
-    let refused : c.taken.result ≡ Err stop.IllTyped = search rules in
-    let typed = some-type (type_in c.args.plan.now.scopes c.args.name.now.text.now) s.0.kind s.0.target in
-    c.taken.ensures.ill_typed refused typed.0 typed.1 (s.0.shaped typed.0 typed.1)
-
-pub returns-in_err-intent_resolves-clause-ill_typed : goal.returns-in_err-intent_resolves-clause-ill_typed
-returns-in_err-intent_resolves-clause-ill_typed c = λ e s.
-    let plan = c.args.plan.now in
-    let refused : c.intent_resolves.result ≡ Err stop.IllTyped = search rules in
-    let (changed, same) = single-change plan.scopes (intents_in plan) c.args.name.now.text.now c.args.sign.op (item_view c.args.value.now) c.in_ok-made.made c.requires c.in_ok-made.ensures.kind s.0 in
-    c.intent_resolves.ensures.ill_typed refused c.in_ok-slot.ensures.slot (subst (IsReducedBy plan.scopes (intents_in plan) c.args.name.now.text.now c.args.sign.op) (sym same) s.0.reduced)
-
 pub returns-clause-plans : goal.returns-clause-plans
 returns-clause-plans c =
     change-plans c.args.plan.now (name_view c.args.name.now) (sign_view c.args.sign) (item_view c.args.value.now) c.args.semicolon c.in_ok-made.made c.in_ok-slot.slot c.change.result
-    (record { node = c.in_ok-made.ensures.node; found = c.in_ok-made.ensures.found }) c.in_ok-slot.ensures.kind c.in_ok-slot.ensures.slot c.in_ok-taken.ensures.taken c.in_ok-intent_resolves.ensures.resolves
-    c.change.ensures.takes c.change.ensures.kind c.change.ensures.node
+    c.in_ok-made.ensures.node c.in_ok-slot.ensures.kind c.in_ok-slot.ensures.slot c.change.ensures.kind c.change.ensures.node
 
 pub returns-clause-ill_typed : goal.returns-clause-ill_typed
 returns-clause-ill_typed c = λ e s.

@@ -4,11 +4,17 @@ use Rattle.dpl_tree.specs.Statements.{stmts_of, program_view}
 use Rattle.dpl_nodes.specs.declared.stop.NoNode.TheVariants as stop
 use Rattle.dpl_runnable.specs.Runnable.{AreRunnableTops}
 use Rattle.dpl_planner.specs.Plans.{reducing_view}
-use Rattle.dpl_planner.proofs.Programs.{program-fits}
+use Rattle.dpl_planner.proofs.Programs.{program-steps, program-slots, program-scopes}
 use Rattle.dpl_planner.proofs.program.plan.Goals as goal
 
-pub returns-clause-fits : goal.returns-clause-fits
-returns-clause-fits c = program-fits c.in_ok-plan.plan c.top_stmts.new.plan (program_view c.args.program.now) c.in_ok-steps.steps.now c.in_ok-plan.ensures.scopes c.in_ok-plan.ensures.intents c.in_ok-steps.ensures.plans
+pub returns-clause-steps : goal.returns-clause-steps
+returns-clause-steps c = program-steps c.in_ok-plan.plan c.top_stmts.new.plan (program_view c.args.program.now) c.in_ok-steps.steps.now c.in_ok-plan.ensures.scopes c.in_ok-plan.ensures.slots c.in_ok-steps.ensures.plans
+
+pub returns-clause-slots : goal.returns-clause-slots
+returns-clause-slots c = program-slots c.in_ok-plan.plan c.top_stmts.new.plan (program_view c.args.program.now) c.in_ok-steps.steps.now c.in_ok-plan.ensures.scopes c.in_ok-plan.ensures.slots c.in_ok-steps.ensures.plans
+
+pub returns-clause-scopes : goal.returns-clause-scopes
+returns-clause-scopes c = program-scopes c.in_ok-plan.plan c.top_stmts.new.plan (program_view c.args.program.now) c.in_ok-steps.steps.now c.in_ok-plan.ensures.scopes c.in_ok-plan.ensures.slots c.in_ok-steps.ensures.plans
 
 pub returns-in_err-steps-clause-ill_typed : goal.returns-in_err-steps-clause-ill_typed
 returns-in_err-steps-clause-ill_typed c = λ e h.

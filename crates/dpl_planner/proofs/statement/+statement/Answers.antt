@@ -1,5 +1,5 @@
 -- Each statement is planned part by part; a body's scope is entered and left.
-use Rattle.std.proofs.Common.{rules, ◌≡◌, ◌+◌, inl, inr, true, [], drop, map, Some, refl, sym, ap, ◌∙◌, subst, Err}
+use Rattle.std.proofs.Common.{rules, ◌≡◌, ◌+◌, inl, inr, true, [], drop, map, refl, sym, ap, ◌∙◌, subst, Err}
 use Rattle.dpl_syntax.proofs.Walks.{drop-end}
 use Rattle.dpl_language.specs.Tree.{NoStmts, Block, For, Forall, ElseDo}
 use Rattle.dpl_language.specs.Phrases.{intents_of}
@@ -17,12 +17,13 @@ use Rattle.dpl_nodes.specs.declared.stop.NoNode.TheVariants as stop
 use Rattle.dpl_nodes.specs.declared.step.Step.{Block as BlockStep}
 use Rattle.dpl_nodes.specs.declared.step.Else.{Do as DoStep}
 use Rattle.dpl_runnable.specs.Runnable.{IsRunnableStmt, IsRunnableBody, IsRunnableElse}
+use Rattle.dpl_runnable.proofs.Headers.{header-over, header-untyped, header-kinds}
 use Rattle.dpl_planner.specs.declared.progress.Plan.{Plan}
 use Rattle.dpl_planner.specs.Plans.{reducing_view, intents_in, PlansStmt, PlansStmts, PlansInner, PlansBody, PlansElse}
 use Rattle.dpl_planner.proofs.Bodies.{entered, block-plans, body-plans, block_stmt-plans, else-plans}
-use Rattle.dpl_planner.proofs.Headers.{header-over, header-untyped, header-kinds, header-fresh, header-int}
+use Rattle.dpl_planner.proofs.Headers.{header-int}
 use Rattle.dpl_planner.proofs.Statements.{while-plans, if-plans, for-plans, forall-plans}
-use Rattle.dpl_planner.proofs.Lists.{Still, still-begun, still-at, still-ended, nothing, asked-nothing, unasked}
+use Rattle.dpl_planner.proofs.Lists.{Still, still-begun, still-at, still-ended}
 use Rattle.dpl_planner.proofs.Results.{listed}
 use Rattle.dpl_planner.proofs.RefusedStatements.{body-entered, stmts-entered, stmt-entered, else-behind, body-opened, reducing-none, still_runnable-next, still_runnable-at}
 use Rattle.dpl_planner.proofs.statement.+statement.Goals as goal
@@ -118,7 +119,7 @@ stmts-loop-next-init t c =
     let a = c.args.plan.now in
     let all = stmts_of c.args.stmts.now in
     let empty : c.new-steps.result.items ≡ [] = search rules in
-    record { still = subst (Still nothing a all a all) (sym empty) (still-begun nothing a all); runnable = λ h. h }
+    record { still = subst (Still a all a all) (sym empty) (still-begun a all); runnable = λ h. h }
 
 pub stmts-loop-next-preserved : goal.stmts-loop-next-preserved
 stmts-loop-next-preserved t c =
@@ -128,10 +129,10 @@ stmts-loop-next-preserved t c =
     let x = c.next-item.result in
     let planned = c.in_ok-step.ensures.plans in
     record {
-      still = subst (λ made. Still nothing old (stmts_of all) c.stmt.new.plan (stmts_of (drop (at.next-index + 1) all)) made) (sym c.in_ok-push.ensures.more)
-          (still-at nothing old (stmts_of all) all at.next-index x at.plan c.stmt.new.plan c.in_ok-step.step at.steps.items c.loop-next-test.true c.next-item.is
-          (λ t ss start opened known u. tt) at.invariant.still (asked-nothing at.plan c.stmt.new.plan (stmt_view x) c.in_ok-step.step planned));
-      runnable = still_runnable-at old (stmts_of all) all at.next-index x at.plan c.stmt.new.plan c.loop-next-test.true c.next-item.is at.invariant.runnable planned.goes;
+      still = subst (λ made. Still old (stmts_of all) c.stmt.new.plan (stmts_of (drop (at.next-index + 1) all)) made) (sym c.in_ok-push.ensures.more)
+          (still-at old (stmts_of all) all at.next-index x at.plan c.stmt.new.plan c.in_ok-step.step at.steps.items c.loop-next-test.true c.next-item.is
+          at.invariant.still planned);
+      runnable = still_runnable-at old (stmts_of all) all at.next-index x at.plan c.stmt.new.plan _ c.loop-next-test.true c.next-item.is at.invariant.runnable planned.goes;
     }
 
 pub stmts-returns-in_err-step-clause-ill_typed : goal.stmts-returns-in_err-step-clause-ill_typed
@@ -148,7 +149,7 @@ stmts-returns-clause-plans t c =
     let all = c.args.stmts.now in
     let none : stmts_of (drop at.next-index all) ≡ NoStmts = ap stmts_of (drop-end all at.next-index c.loop-next-test.false) in
     listed (PlansStmts old at.plan (stmts_of all)) at.steps.items c.list.result c.list.ensures.kept
-    (unasked old at.plan (stmts_of all) at.steps.items (still-ended nothing old (stmts_of all) at.plan (stmts_of (drop at.next-index all)) at.steps.items none at.invariant.still))
+    (still-ended old (stmts_of all) at.plan (stmts_of (drop at.next-index all)) at.steps.items none at.invariant.still)
 
 -- ---- REFUSALS: what the planner doesn't take doesn't run
 pub choose-returns-in_err-condition-clause-ill_typed : goal.choose-returns-in_err-condition-clause-ill_typed
@@ -164,7 +165,7 @@ choose-returns-in_err-body-clause-ill_typed t c = λ e h.
 pub choose-returns-in_err-otherwise-clause-ill_typed : goal.choose-returns-in_err-otherwise-clause-ill_typed
 choose-returns-in_err-otherwise-clause-ill_typed t c = λ e h.
     let refused : c.otherwise.result ≡ Err stop.IllTyped = search rules in
-    c.otherwise.ensures.ill_typed refused (else-behind c.args.plan.now c.body.new.plan (else_view c.args.choice.now.otherwise) c.in_ok-body.ensures.plans.goes h.2)
+    c.otherwise.ensures.ill_typed refused (else-behind c.args.plan.now c.body.new.plan (else_view c.args.choice.now.otherwise) _ c.in_ok-body.ensures.plans.goes h.2)
 
 pub repeat-returns-in_err-at-clause-ill_typed : goal.repeat-returns-in_err-at-clause-ill_typed
 repeat-returns-in_err-at-clause-ill_typed t c = λ e h.
@@ -204,7 +205,7 @@ for_turns-returns-in_err-names-clause-ill_typed t c = λ e h.
     let ss = c.args.plan.now.scopes in
     let xs = variables_view turns.variables in
     let refused : c.open.result ≡ Err stop.IllTyped = search rules in
-    c.open.ensures.ill_typed refused (header-kinds ss xs (item_view turns.over) h.0 ForWord (inl refl) (type_view c.in_ok-t.t) c.in_ok-t.ensures.typed) (header-fresh ss xs (item_view turns.over) h.0 (Some (type_view c.in_ok-t.t)))
+    c.open.ensures.ill_typed refused (header-kinds ss xs (item_view turns.over) h.0 ForWord (inl refl) (type_view c.in_ok-t.t) c.in_ok-t.ensures.typed)
 
 pub for_turns-returns-clause-ill_typed : goal.for_turns-returns-clause-ill_typed
 for_turns-returns-clause-ill_typed t c = λ e h.
@@ -249,7 +250,7 @@ forall_turns-returns-in_err-names-clause-ill_typed t c = λ e h.
     let ss = c.args.plan.now.scopes in
     let xs = variables_view turns.variables in
     let refused : c.open.result ≡ Err stop.IllTyped = search rules in
-    c.open.ensures.ill_typed refused (header-kinds ss xs (item_view turns.over) h.1 ForallWord (inr refl) (type_view c.in_ok-t.t) c.in_ok-t.ensures.typed) (header-fresh ss xs (item_view turns.over) h.1 (Some (type_view c.in_ok-t.t)))
+    c.open.ensures.ill_typed refused (header-kinds ss xs (item_view turns.over) h.1 ForallWord (inr refl) (type_view c.in_ok-t.t) c.in_ok-t.ensures.typed)
 
 pub forall_turns-returns-clause-ill_typed : goal.forall_turns-returns-clause-ill_typed
 forall_turns-returns-clause-ill_typed t c = λ e h.

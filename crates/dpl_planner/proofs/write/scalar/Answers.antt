@@ -7,7 +7,7 @@ use Rattle.dpl_planner.proofs.Printed.{int-argument, truth-argument}
 use Rattle.dpl_planner.proofs.write.scalar.Goals as goal
 
 pub returns-in-Int-clause-shown : goal.returns-in-Int-clause-shown
-returns-in-Int-clause-shown c = int-argument c.args.plan.now.scopes (expr_view c.args.e.now) c.in-Int.e (ap (typed_view Once) (sym c.in-Int.is) ∙ c.in_ok-made.ensures.node Once) c.in_ok-made.ensures.found
+returns-in-Int-clause-shown c = int-argument c.args.plan.now.scopes (expr_view c.args.e.now) c.in-Int.e (ap (typed_view Once) (sym c.in-Int.is) ∙ c.in_ok-made.ensures.node Once)
 
 pub returns-in-Truth-clause-shown : goal.returns-in-Truth-clause-shown
-returns-in-Truth-clause-shown c = truth-argument c.args.plan.now.scopes (expr_view c.args.e.now) c.in-Truth.e (ap (typed_view Once) (sym c.in-Truth.is) ∙ c.in_ok-made.ensures.node Once) c.in_ok-made.ensures.found
+returns-in-Truth-clause-shown c = truth-argument c.args.plan.now.scopes (expr_view c.args.e.now) c.in-Truth.e (ap (typed_view Once) (sym c.in-Truth.is) ∙ c.in_ok-made.ensures.node Once)

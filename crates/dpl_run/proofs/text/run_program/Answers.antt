@@ -31,9 +31,9 @@ returns-in-Ok-clause-means g c =
     let limits = limits_of c.args.config.now in
     let start = first_memory (start_of p.slots p.scopes sets) in
     let read : steps_in Outside steps ≡ steps_of steps = steps_in-of Outside steps (plan-stands t sets steps c.requires.untasked c.requires.unrefused e.steps) in
-    let plan : IsPlan t p.slots p.scopes steps = planned t p.slots p.scopes steps e.steps e.fits e.scopes e.plain in
+    let plan : IsPlan t p.slots p.scopes steps = planned t p.slots p.scopes steps c.requires.runnable e.steps e.slots e.scopes in
     if_ok c.run_planned.result
     (λ ended ran histories. means-ran t sets p.slots p.scopes steps plan (sets-fit t sets c.requires.unrefused) (limits_of c.args.config.now) histories ended.outcome ended.text.items
     (subst (λ ts. RanTo p.scopes t.stmts (exec_all limits in_memory ts start no_deeds) ended.outcome ended.text.items) read
-    (ran e.plain (subst AreLeft (sym e.scopes) (tops-left t.stmts top c.requires.runnable top-left)))))
+    (ran plan.plain (subst AreLeft (sym e.scopes) (tops-left t.stmts top c.requires.runnable top-left)))))
     c.run_planned.ensures.ends

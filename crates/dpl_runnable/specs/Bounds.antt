@@ -1,13 +1,13 @@
 -- A program with its names resolved by the scopes as they stand where each name does.
--- A declared name has the next slot, and any other the leaf of its innermost declaration.
-use Rattle.std.specs.Prelude.{ℕ, List, [], ◌∷◌, Option, option_map}
+-- A declared name has the next slot, and any other the leaf of its innermost declaration. So the tree tells how many slots it needs.
+use Rattle.std.specs.Prelude.{ℕ, ◌+◌, max, List, [], ◌∷◌, Option, option_map}
 use Rattle.dpl_language.specs.Tree.{Placed, AfterComma, ItemTree, VariablesTree, OneVariable, ManyVariables, DeclareTree, TargetTree, Whole, Element, StmtTree, Nothing, Declare, Assigned, Call, Write, Block, If, While, For, Forall, Coforall, On, Body, WordBody, BlockBody, Stmts, NoStmts, Then, Else, NoElse, ElseDo, ProgramTree}
 use Rattle.dpl_language.specs.Names.{Text}
 use Rattle.dpl_agreement.specs.Renamed.{renamed, renamed_expr, renamed_exprs, renamed_item, renamed_typed, renamed_initial, renamed_write, renamed_with, renamed_call}
 use Rattle.dpl_rules.specs.Types.{ValueType}
 use Rattle.dpl_rules.specs.Sights.{LoopVariable, Declared, Scopes, enter, add, origin_in}
 use Rattle.dpl_rules.specs.Declarations.{declared_by}
-use Rattle.dpl_rules.specs.Loops.{LoopWord, ForWord, ForallWord, CoforallWord, typed_variable, over_type, in_loop, behind}
+use Rattle.dpl_rules.specs.Loops.{LoopWord, ForWord, ForallWord, CoforallWord, typed_variable, over_type, variables_of, in_loop, behind}
 use Rattle.dpl_rules.specs.Breaches.{top}
 use Rattle.dpl_scopes.specs.Slots.{next_slot_in}
 use Rattle.dpl_memory.specs.Memory.{VariableKind, PlainKind, DomainKind, TupleKind, CellKind, ArrayKind, Variable}
@@ -105,3 +105,46 @@ abbrev mutual
 
 abbrev pub bound_program : ProgramTree Text → ProgramTree Bound
 bound_program t = record { uses = t.uses; stmts = bound_stmts top t.stmts; end = t.end }
+
+-- SLOTS: how many there are behind a part, where there are n before it
+abbrev pub with_slot : Scopes → ℕ → ℕ
+with_slot ss n = max n (next_slot_in ss + 1)
+
+-- those of a loop's variables, one behind the other
+abbrev pub slots_each : Option ValueType → List (Placed Text) → Scopes → ℕ → ℕ
+slots_each t [] ss n = n
+slots_each t (x ∷ xs) ss n = slots_each t xs (add (loop_variable t ss x.name) ss) (with_slot ss n)
+
+abbrev pub slots_turn : Scopes → LoopWord → VariablesTree Text → ItemTree Text → ℕ → ℕ
+slots_turn ss word xs item n = slots_each (loop_type ss word xs item) (variables_of xs) (enter ss) n
+
+abbrev mutual
+  pub slots_stmt : Scopes → StmtTree Text → ℕ → ℕ
+  slots_stmt ss (Nothing at) n = n
+  slots_stmt ss (Declare d) n = with_slot ss n
+  slots_stmt ss (Assigned target sign item semicolon) n = n
+  slots_stmt ss (Call x dot call semicolon) n = n
+  slots_stmt ss (Write w) n = n
+  slots_stmt ss (Block from body upto) n = slots_stmts (enter ss) body n
+  slots_stmt ss (If at e first second) n = slots_else ss second (slots_body (enter ss) first n)
+  slots_stmt ss (While at e body) n = slots_body (enter ss) body n
+  slots_stmt ss (For at xs word item body) n = slots_body (in_loop ss ForWord xs item) body (slots_turn ss ForWord xs item n)
+  slots_stmt ss (Forall at xs word item intents body) n = slots_body (in_loop ss ForallWord xs item) body (slots_turn ss ForallWord xs item n)
+  slots_stmt ss (Coforall at xs word item intents body) n = slots_body (in_loop ss CoforallWord xs item) body (slots_turn ss CoforallWord xs item n)
+  slots_stmt ss (On at e body) n = slots_body (enter ss) body n
+
+  pub slots_body : Scopes → Body Text → ℕ → ℕ
+  slots_body ss (WordBody at t) n = slots_stmt ss t n
+  slots_body ss (BlockBody from ts upto) n = slots_stmts ss ts n
+
+  pub slots_stmts : Scopes → Stmts Text → ℕ → ℕ
+  slots_stmts ss NoStmts n = n
+  slots_stmts ss (Then t rest) n = slots_stmts (behind ss t) rest (slots_stmt ss t n)
+
+  pub slots_else : Scopes → Else Text → ℕ → ℕ
+  slots_else ss NoElse n = n
+  slots_else ss (ElseDo at t) n = slots_stmt (enter ss) t n
+
+-- of a whole program
+abbrev pub slots_of : ProgramTree Text → ℕ
+slots_of t = slots_stmts top t.stmts 0

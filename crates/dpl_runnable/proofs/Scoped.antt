@@ -38,8 +38,8 @@ use Rattle.dpl_typer.proofs.Sights.{HasKnownKind}
 use Rattle.dpl_typer.proofs.Overs.{over-declared}
 use Rattle.dpl_runnable.proofs.Owed.{owed_type-holds}
 use Rattle.dpl_runnable.proofs.Scopes.{is_domain-kept, is_untyped-kept}
-use Rattle.dpl_planner.specs.Bounds.{bound_new, bound_declare, bound_stmt, bound_stmts}
-use Rattle.dpl_planner.specs.Plans.{seen_of, AreOpen, behind_body}
+use Rattle.dpl_runnable.specs.Bounds.{bound_new, bound_declare, bound_stmt, bound_stmts}
+use Rattle.dpl_runnable.specs.InSight.{seen_of, AreOpen, behind_body}
 
 -- ONE MORE NAME
 pub next_open : (s : Scope) (ss : Scopes) → count_in (s ∷ ss) ≡ next_slot_in (s ∷ ss)

@@ -1,11 +1,11 @@
 -- What the command line owes the top level's names: what holds behind a declaration holds before it.
 -- A name is declared once in the only scope, so that a later declaration hides none.
-use Rattle.std.proofs.Common.{◌≡◌, suc, ◌+◌, Bool, true, false, [], ◌∷◌, length, Option, Some, None, Result, Ok, Err, refl, sym, ap, subst}
-use Rattle.std.specs.Prelude.{bytes_eq, if◌then◌else◌, IfOk}
+use Rattle.std.proofs.Common.{◌≡◌, suc, ◌+◌, Bool, true, false, [], ◌∷◌, length, Option, Some, None, refl, sym, ap, subst}
+use Rattle.std.specs.Prelude.{bytes_eq, if◌then◌else◌}
 use Rattle.std.specs.Option.{option_or}
 use Rattle.std.proofs.lemmas.Slice.Eq.{bytes_eq-Decides}
 use Rattle.dpl_syntax.specs.declared.place.Place.{Place}
-use Rattle.dpl_language.specs.Tree.{DeclareTree, StmtTree, Declare, Stmts, NoStmts, Then}
+use Rattle.dpl_language.specs.Tree.{DeclareTree, StmtTree, Stmts, NoStmts, Then}
 use Rattle.dpl_language.specs.Names.{Text}
 use Rattle.dpl_rules.specs.Sights.{Declared, Scope, Scopes, find, lookup, type_declared, declared_here, add}
 use Rattle.dpl_rules.specs.Loops.{behind}
@@ -16,13 +16,10 @@ use Rattle.dpl_memory.specs.Resolved.{Bound, Start}
 use Rattle.dpl_typer.specs.Leaves.{kind_by, leaf_by}
 use Rattle.dpl_typer.specs.Shapes.{shape_by}
 use Rattle.dpl_typer.specs.Sights.{bound_in, bound_at, AreKnownScopes}
-use Rattle.dpl_planner.specs.declared.progress.Plan.{Plan}
-use Rattle.dpl_nodes.specs.declared.step.Step.{Step}
-use Rattle.dpl_planner.specs.Bounds.{bound_new}
-use Rattle.dpl_planner.specs.Given.{IsOfLeaf, IsGiven, IsConfig, AreGiven}
-use Rattle.dpl_planner.specs.Parts.{IsOwed, IsOwedBy, PlansDeclare}
-use Rattle.dpl_planner.specs.Plans.{AreOpen, IsOneScope, AreOwed, PlansStmt, PlansTop}
-use Rattle.dpl_planner.proofs.Scoped.{unfound, next_open, added-new, behind-cases}
+use Rattle.dpl_runnable.specs.Bounds.{bound_new}
+use Rattle.dpl_runnable.specs.Given.{IsOfLeaf, IsGiven, IsConfig, AreGiven}
+use Rattle.dpl_runnable.specs.InSight.{AreOpen, IsOneScope, AreOwed, IsOwedBy, IsOwed}
+use Rattle.dpl_runnable.proofs.Scoped.{unfound, next_open, added-new, behind-cases}
 
 one-add : (d : Declared) (ss : Scopes) → IsOneScope ss → IsOneScope (add d ss)
 one-add d [] h = absurd h
@@ -82,18 +79,3 @@ given-owed start ss d leaf given = by d.config refl
     by : (config : Option Place) → d.config ≡ config → IsOwedBy config start (bound_new ss (declared_by ss d))
     by None e = tt
     by (Some at) e = given-new start (declared_by ss d) ss (ap (λ c. is_configured (sort_of c d.constant)) e, leaf at e) given
-
-pub declare-top : (a b : Plan) (d : DeclareTree Text) (s : Step) → ((at : Place) → d.config ≡ Some at → IsOfLeaf (declared_by a.scopes d)) → PlansDeclare a b d s → PlansTop a b (Declare d) s
-declare-top a b d s leaf p = record {
-  goes = p.goes;
-  node = p.node;
-  resolves = λ start h le owed. p.resolves start h le (given-owed start a.scopes d leaf (subst (AreGiven start) p.goes.scopes owed.1));
-}
-
-pub stmt-top : (a b : Plan) (t : StmtTree Text) (s : Step) → PlansStmt a b t s → PlansTop a b t s
-stmt-top a b t s p = record { goes = p.goes; node = p.node; resolves = λ start h le owed. p.resolves start h le }
-
-pub declared-top : {E : Type 0} (r : Result Step E) (a b : Plan) (d : DeclareTree Text) → IfOk r (λ s. (at : Place) → d.config ≡ Some at → IsOfLeaf (declared_by a.scopes d)) → IfOk r (λ s. PlansDeclare a b d s)
-    → IfOk r (λ s. PlansTop a b (Declare d) s)
-declared-top (Ok s) a b d leaf p = declare-top a b d s leaf p
-declared-top (Err e) a b d leaf p = tt
