@@ -255,12 +255,7 @@ fn declare_single<'s, 't>(
     let Some(value_type) = declared.value_type else {
         return Err(NoNode::IllTyped);
     };
-    let begun = initial(
-        plan.arena,
-        &plan.scopes,
-        &written.typed,
-        &written.initial,
-    )?;
+    let begun = initial(plan.arena, &plan.scopes, &written.typed, &written.initial)?;
     if !begins(value_type, begun) {
         return Err(NoNode::IllTyped);
     }

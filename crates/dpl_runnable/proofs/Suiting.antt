@@ -122,7 +122,6 @@ module _ (ss : Scopes) (known : AreKnownScopes ss) (is : List (Bound × Op)) (it
   pub leaf-suits : (k : Kind) (shape : Shape) → value_kind u ≡ Some (PlainKind (leaf_of k)) → SuitsElement (ArrayKind k) shape made g
   leaf-suits k shape of = element-given k shape (PlainKind (leaf_of k)) of (leaf-operand k) (leaf-array u (leaf_of k) of)
 
-
 -- what an array is given has elements of its kind
 pub given-operand : (l : Kind) (k : VariableKind) → IsGivenTo (ArrayKind l) k → operand_kind k ≡ Some l
 given-operand l k (inl e) = ap operand_kind e
