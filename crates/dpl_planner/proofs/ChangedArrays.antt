@@ -81,6 +81,11 @@ module _ (a : Plan) (x : Placed Text) (shape : BracketPair) (from upto : Place) 
             ∙ sym made;
       }
 
+  pub element-planned : {E : Type 0} (r : Result Step E) → IsIndexOf a.scopes es index → IsItem a.scopes item t → kind_in a.scopes x.name ≡ Some (ArrayKind k) → slot_in a.scopes x.name ≡ Some n.slot → n.at.now ≡ x.at
+      → IfOk r (λ s. step_view s ≡ element_changed (array_leaf k n) (index_exprs index) sign.op sign.at (typed_item Once t)) → IfOk r (λ s. PlansStmt a a (Assigned (Element x shape from es upto) sign item semicolon) s)
+  element-planned (Ok s) indexed is kind at near made = element-plans s indexed is kind at near made
+  element-planned (Err f) indexed is kind at near made = tt
+
 -- ---- WHAT RUNS
 -- an assignment to a whole array gives its elements what they take, and is no `reduce=`
 pub array-change : (ss : Scopes) (is : List (Bound × Op)) (x : Text) (op : Assign) (value : ItemTree Text) (t : Typed) (k : Kind) → kind_in ss x ≡ Some (ArrayKind k) → IsOfType t (item_type ss value)

@@ -24,6 +24,7 @@ use Rattle.dpl_nodes.specs.Steps.{unplaced_leaf, next_name}
 use Rattle.dpl_typer.specs.Leaves.{value_kind, leaf_by}
 use Rattle.dpl_planner.specs.declared.progress.Plan.{Plan}
 use Rattle.dpl_runnable.specs.Bounds.{loop_variable, bound_variable, bound_others, bound_variables, slots_each, with_slot}
+use Rattle.dpl_runnable.proofs.Turned.{part_of}
 use Rattle.dpl_planner.specs.Parts.{slots_from, AreDeclared, StillDeclared, IsOpened}
 
 -- THEIR SLOTS

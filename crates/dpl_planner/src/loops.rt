@@ -175,7 +175,7 @@ fn other_names<'s, 't>(
 /// Opens the scope of a loop's variables, and gives these with their slots.
 ///
 /// # Errors
-/// Out of memory; a name that stands twice, and what is no variable of a loop.
+/// Out of memory; what is no variable of a loop.
 pub(crate) fn open<'s, 't>(
     plan: &mut Plan<'s, 't>,
     variables: &Variables<'s>,

@@ -50,7 +50,7 @@ abbrev bound_list : Option ValueType → List (Placed Text) → Scopes → List 
 bound_list t [] ss = []
 bound_list t (x ∷ xs) ss = bound_variable t ss x ∷ bound_list t xs (add (loop_variable t ss x.name) ss)
 
-abbrev part_of : {A : Type 0} → AfterComma A → A
+abbrev pub part_of : {A : Type 0} → AfterComma A → A
 part_of x = x.part
 
 others-parts : (t : Option ValueType) (ss : Scopes) (xs : List (AfterComma (Placed Text))) → map {A = AfterComma (Placed Bound)} {B = Placed Bound} part_of (bound_others t ss xs) ≡ bound_list t (map {A = AfterComma (Placed Text)} {B = Placed Text} part_of xs) ss

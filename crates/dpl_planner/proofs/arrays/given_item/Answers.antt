@@ -9,7 +9,6 @@ use Rattle.dpl_rules.specs.Expressions.{item_type}
 use Rattle.dpl_runnable.proofs.Suiting.{given-operand}
 use Rattle.dpl_planner.proofs.RefusedParts.{item-kind, no_kind}
 use Rattle.dpl_planner.specs.Elements.{elements_view}
-use Rattle.dpl_planner.proofs.ChangedArrays.{given-operand}
 use Rattle.dpl_planner.proofs.DeclaredArrays.{given-array}
 use Rattle.dpl_planner.proofs.arrays.given_item.Goals as goal
 

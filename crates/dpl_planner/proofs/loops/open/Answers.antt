@@ -3,7 +3,6 @@ use Rattle.std.proofs.Common.{rules, ◌≡◌, true, ap}
 use Rattle.dpl_tree.specs.View.{name_view}
 use Rattle.dpl_tree.specs.Statements.{variables_view}
 use Rattle.dpl_scopes.specs.Types.{type_view}
-use Rattle.dpl_nodes.specs.declared.stop.NoNode.TheVariants as stop
 use Rattle.dpl_planner.proofs.Opened.{many-opened}
 use Rattle.dpl_planner.proofs.loops.open.Goals as goal
 

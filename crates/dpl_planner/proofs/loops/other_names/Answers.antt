@@ -3,7 +3,6 @@ use Rattle.std.proofs.Common.{rules, ◌≡◌, ◌+◌, [], drop, sym, subst}
 use Rattle.dpl_syntax.proofs.Walks.{drop-end}
 use Rattle.dpl_scopes.specs.Types.{type_view}
 use Rattle.dpl_forms.specs.Heads.{names_in}
-use Rattle.dpl_nodes.specs.declared.stop.NoNode.TheVariants as stop
 use Rattle.dpl_planner.specs.Parts.{AreDeclared, StillDeclared}
 use Rattle.dpl_planner.proofs.Opened.{still-declared-begun, still-declared-at, still-declared-ended}
 use Rattle.dpl_planner.proofs.Results.{listed}
