@@ -132,31 +132,75 @@ opposite-goes h = by (int_eq h (pos 0))
     by true = refl
     by false = refl
 
--- A BRANCH AND ANOTHER, in the turns of a row
+-- where it is met, and where a mask counts all the same
+pub not-both : (m h b : Bool) → b ≡ (m && h) → (m && not b) ≡ (m && not h)
+not-both true h b is = ap not is
+not-both false h b is = refl
+
+-- NO STATEMENT leaves all as it is
+pub nothing-found : (limits : Limits) (names : Names) (row : Row) (s : Memory) (mask : Option (List ℤ)) (size : ℕ) (xs : List Store) → AreFound limits names row s NoStmts mask size xs xs
+nothing-found limits names row s mask size xs = record {
+  alike = refl;
+  there = λ k below cap there. there;
+  does = λ k below cap there u begun done. none-left limits (goes_in mask k) (all_stored xs k u) done;
+}
+
+-- A BRANCH, in the turns of a row, and another one
 module _
-    (limits : Limits) (names : Names) (row : Row) (s : Memory) (mask : Option (List ℤ)) (met unmet : List ℤ) (e : ExprTree Variable) (body : Stmts Variable) (other : Else Variable)
-    (xs ys zs : List Store) (known left size : ℕ) (apart : AreApart names xs) (holds : Strip) (begins : holds.row ≡ row) (enough : known ≤ holds.size) (few : left ≤ known) (fewer : size ≤ left)
+    (limits : Limits) (names : Names) (row : Row) (s : Memory) (mask : Option (List ℤ)) (met : List ℤ) (e : ExprTree Variable) (body : Stmts Variable)
+    (xs ys : List Store) (known left : ℕ) (apart : AreApart names xs) (holds : Strip) (begins : holds.row ≡ row) (enough : known ≤ holds.size) (few : left ≤ known)
     (is_met : (k : ℕ) → k < 64 → goes_in (Some met) k ≡ (goes_in mask k && goes_in (Some holds.words) k))
-    (is_unmet : (k : ℕ) → k < 64 → goes_in (Some unmet) k ≡ (goes_in mask k && not (goes_in (Some holds.words) k)))
     (truths : TruthsHoldInTurns names (map by_now xs) (λ u. value_of limits in_memory e None u) s holds)
-    (first : AreFound limits names row s body (Some met) left xs ys) (second : AreFound limits names row s (else_body other) (Some unmet) size ys zs) where
-  pub branches-found : AreFound limits names row s (Then (If nowhere e (listed body) other) NoStmts) mask size xs zs
-  branches-found = record {
-    alike = second.alike ∙ first.alike;
-    there = λ k below cap there. second.there k below cap (first.there k (omega (arith, below, fewer)) cap there);
+    (first : AreFound limits names row s body (Some met) left xs ys) where
+  -- the condition's value in a turn, and what the first branch comes to by it
+  Condition : ℕ → Memory → Type 0
+  Condition k m = (b : Bool) × (value_of limits in_memory e None m ≡ Ok (Truth b)) × (goes_in (Some holds.words) k ≡ b)
+
+  condition : (k : ℕ) → k < left → k < 64 → HaveElements xs k s → (u : Memory) → Begins names xs row k s u → Condition k (all_stored xs k u)
+  unfolding Condition
+  condition k below cap there u begun =
+      let truth = truths k (omega (arith, below, few, enough)) cap in
+      let m = all_stored xs k u in
+      let turn = own-now names xs row k s u apart there begun in
+      (truth.0, truth.2 m (subst (λ row. IsInOwnTurn names (map by_now xs) row k s m) (sym begins) turn), goes-truth truth.0 holds.words k truth.1)
+
+  one-branch : (k : ℕ) (b : Bool) → goes_in (Some holds.words) k ≡ b → k < left → k < 64 → HaveElements xs k s → (u : Memory) → Begins names xs row k s u → (done : Deeds)
+      → exec_all limits in_memory (done_where (goes_in mask k && b) body) (all_stored xs k u) done ≡ Done (all_stored ys k u) done
+  one-branch k b is below cap there u begun done =
+      let goes = is_met k cap ∙ ap (λ b. goes_in mask k && b) is in
+      ap (λ b. exec_all limits in_memory (done_where b body) (all_stored xs k u) done) (sym goes) ∙ first.does k below cap there u begun done
+
+  pub branch-found : AreFound limits names row s (Then (If nowhere e (listed body) NoElse) NoStmts) mask left xs ys
+  unfolding Condition
+  branch-found = record {
+    alike = first.alike;
+    there = first.there;
     does = λ k below cap there u begun done.
-        let truth = truths k (omega (arith, below, fewer, few, enough)) cap in
-        let m = all_stored xs k u in
-        let turn = own-now names xs row k s u apart there begun in
-        let value = truth.2 m (subst (λ row. IsInOwnTurn names (map by_now xs) row k s m) (sym begins) turn) in
-        let goes = goes-truth truth.0 holds.words k truth.1 in
-        let one = is_met k cap ∙ ap (λ b. goes_in mask k && b) goes in
-        let two = is_unmet k cap ∙ ap (λ b. goes_in mask k && not b) goes in
-        if-found limits (goes_in mask k) truth.0 e body other m (all_stored ys k u) (all_stored zs k u) done value
-        (ap (λ b. exec_all limits in_memory (done_where b body) m done) (sym one) ∙ first.does k (omega (arith, below, fewer)) cap there u begun done)
-        (ap (λ b. exec_all limits in_memory (done_where b (else_body other)) (all_stored ys k u) done) (sym two)
-        ∙ second.does k below cap (first.there k (omega (arith, below, fewer)) cap there) u (begins-alike names xs ys row k s u first.alike begun) done);
+        let c = condition k below cap there u begun in
+        let next = all_stored ys k u in
+        if-found limits (goes_in mask k) c.0 e body NoElse (all_stored xs k u) next next done c.1 (one-branch k c.0 c.2 below cap there u begun done)
+        (none-left limits (goes_in mask k && not c.0) next done);
   }
+
+  module _
+      (other : Else Variable) (unmet : List ℤ) (zs : List Store) (size : ℕ) (fewer : size ≤ left)
+      (is_unmet : (k : ℕ) → k < 64 → goes_in (Some unmet) k ≡ (goes_in mask k && not (goes_in (Some met) k)))
+      (second : AreFound limits names row s (else_body other) (Some unmet) size ys zs) where
+    pub branches-found : AreFound limits names row s (Then (If nowhere e (listed body) other) NoStmts) mask size xs zs
+    unfolding Condition
+    branches-found = record {
+      alike = second.alike ∙ first.alike;
+      there = λ k below cap there. second.there k below cap (first.there k (omega (arith, below, fewer)) cap there);
+      does = λ k below cap there u begun done.
+          let before : k < left = omega (arith, below, fewer) in
+          let c = condition k before cap there u begun in
+          let next = all_stored ys k u in
+          let goes = is_unmet k cap ∙ not-both (goes_in mask k) (goes_in (Some holds.words) k) (goes_in (Some met) k) (is_met k cap) ∙ ap (λ b. goes_in mask k && not b) c.2 in
+          if-found limits (goes_in mask k) c.0 e body other (all_stored xs k u) next (all_stored zs k u) done c.1
+          (one-branch k c.0 c.2 before cap there u begun done)
+          (ap (λ b. exec_all limits in_memory (done_where b (else_body other)) next done) (sym goes)
+          ∙ second.does k below cap (first.there k before cap there) u (begins-alike names xs ys row k s u first.alike begun) done);
+    }
 
 -- THE NEXT STATEMENT of a list
 module _ (limits : Limits) (names : Names) (row : Row) (s : Memory) (mask : Option (List ℤ)) (whole : Stmts Variable) (xs : List Store) where

@@ -1,23 +1,25 @@
 // Bodies of several statements, and of `if`s, whose turns are made at once: each statement is found for all turns of a row before the next one
 // is, and what it leaves in variables is kept back (store.rt, keep.rt). At the end that is put, for as many turns as every statement was found.
 
-ghost use Rattle.std.specs.Prelude.{◌≡◌, ◌≤◌, ◌<◌, None, Some, length, option_map, IfSome, IfOk};
+ghost use Rattle.std.specs.Prelude.{◌≡◌, ◌≤◌, length, IfSome, IfOk};
 ghost use Rattle.dpl_language.specs.Tree.{NoStmts, Then};
 ghost use Rattle.dpl_standing.specs.Standing.{Standing};
 ghost use Rattle.dpl_loop.specs.Runs.{AreDone};
-ghost use Rattle.dpl_readings.specs.Readings.{step_in, else_in, steps_in};
+ghost use Rattle.dpl_readings.specs.Readings.{step_in, steps_in};
 ghost use Rattle.dpl_elements.specs.Turns.{index_turn};
-ghost use Rattle.dpl_batches.specs.Stores.{else_body, AreApart, AreFound};
+ghost use Rattle.dpl_batches.specs.Stores.{AreApart};
+ghost use Rattle.dpl_batches.specs.Lanes.{AreFoundIn};
 
 use crate::fold::fold_of;
-use crate::keep::{mask_unless, mask_where, plain};
-use crate::store::{MOST, Store, Variable, are_apart, put_all, targets};
+use crate::keep::{Lanes, found_truths, narrow, plain, turn_over};
+use crate::rows::make_strips;
+use crate::store::{MOST, Store, Variable, are_apart, put_all};
 use crate::turn::{behind, has_room};
 use crate::variables::bind;
 use dpl_frame::{Arrays, Frame};
 use dpl_loop::{Row, STRIP, Strip};
 use dpl_nodes::{Else, IndexExpr, Names, Step, TruthTarget};
-use dpl_strips::{turn_row, turn_truths};
+use dpl_strips::turn_row;
 use std::alloc::AllocError;
 
 // The elements of an array that an assignment writes. The variables that turns write may stand in the index all the same: that is asked for
@@ -146,24 +148,22 @@ fn also_written<'t, A: Arrays>(
 #[cycle(found)]
 fn statements<'t, A: Arrays>(
     body: &[Step<'t>],
-    mask: Option<&[i64; STRIP]>,
-    names: &Names<'t>,
-    row: Row,
+    lanes: &Lanes<'_, '_, 't>,
     frame: &Frame<A>,
+    strip: &mut Strip,
     stores: &mut [Store],
     size: usize,
 ) -> usize
     requires few { length stores.old ≤ 4 }
-    requires apart { AreApart names.now stores.old }
+    requires apart { AreApart lanes.now.names.now stores.old }
     ensures most { result ≤ size }
     ensures few { length stores.new ≤ 4 }
-    ensures apart { AreApart names.now stores.new }
-    ensures found { (w : Standing) → AreFound frame.now.limits names.now row frame.now.memory (steps_in w body.now)
-        (option_map (λ ms. ms.now) mask.entry) result stores.old stores.new }
+    ensures apart { AreApart lanes.now.names.now stores.new }
+    ensures found { (w : Standing) → AreFoundIn lanes.now frame.now (steps_in w body.now) result stores.old stores.new }
 {
     let mut left = size;
     for k in 0..body.len() {
-        left = statement(&body[k], mask, names, row, frame, stores, left);
+        left = statement(&body[k], lanes, frame, strip, stores, left);
         if left == 0 {
             return 0;
         }
@@ -175,48 +175,44 @@ fn statements<'t, A: Arrays>(
 #[cycle(found)]
 fn statement<'t, A: Arrays>(
     step: &Step<'t>,
-    mask: Option<&[i64; STRIP]>,
-    names: &Names<'t>,
-    row: Row,
+    lanes: &Lanes<'_, '_, 't>,
     frame: &Frame<A>,
+    strip: &mut Strip,
     stores: &mut [Store],
     size: usize,
 ) -> usize
     requires few { length stores.old ≤ 4 }
-    requires apart { AreApart names.now stores.old }
+    requires apart { AreApart lanes.now.names.now stores.old }
     ensures most { result ≤ size }
     ensures few { length stores.new ≤ 4 }
-    ensures apart { AreApart names.now stores.new }
-    ensures found { (w : Standing) → AreFound frame.now.limits names.now row frame.now.memory (Then (step_in w step.now) NoStmts)
-        (option_map (λ ms. ms.now) mask.entry) result stores.old stores.new }
+    ensures apart { AreApart lanes.now.names.now stores.new }
+    ensures found { (w : Standing) → AreFoundIn lanes.now frame.now (Then (step_in w step.now) NoStmts) result stores.old stores.new }
 {
     match step {
         Step::Nothing => size,
-        Step::Block(body) => statements(body, mask, names, row, frame, stores, size),
-        Step::If { .. } => branches(step, mask, names, row, frame, stores, size),
-        _ => plain(step, mask, names, row, frame, stores, size),
+        Step::Block(body) => statements(body, lanes, frame, strip, stores, size),
+        Step::If { .. } => branches(step, lanes, frame, strip, stores, size),
+        _ => plain(step, lanes, frame, strip, stores, size),
     }
 }
 
-// An `if`: its first branch counts where the condition holds, and then its other one where it doesn't.
+// An `if`: its first branch counts where the condition holds, and then its other one where it doesn't. The condition's words are the mask.
 #[cycle(found)]
 #[inline(never)]
 fn branches<'t, A: Arrays>(
     step: &Step<'t>,
-    mask: Option<&[i64; STRIP]>,
-    names: &Names<'t>,
-    row: Row,
+    lanes: &Lanes<'_, '_, 't>,
     frame: &Frame<A>,
+    strip: &mut Strip,
     stores: &mut [Store],
     size: usize,
 ) -> usize
     requires few { length stores.old ≤ 4 }
-    requires apart { AreApart names.now stores.old }
+    requires apart { AreApart lanes.now.names.now stores.old }
     ensures most { result ≤ size }
     ensures few { length stores.new ≤ 4 }
-    ensures apart { AreApart names.now stores.new }
-    ensures found { (w : Standing) → AreFound frame.now.limits names.now row frame.now.memory (Then (step_in w step.now) NoStmts)
-        (option_map (λ ms. ms.now) mask.entry) result stores.old stores.new }
+    ensures apart { AreApart lanes.now.names.now stores.new }
+    ensures found { (w : Standing) → AreFoundIn lanes.now frame.now (Then (step_in w step.now) NoStmts) result stores.old stores.new }
 {
     let Step::If {
         condition,
@@ -226,58 +222,47 @@ fn branches<'t, A: Arrays>(
     else {
         return 0;
     };
-    let mut holds = Strip::none(row);
-    let written = targets(stores, row);
-    turn_truths(
-        condition,
-        names,
-        &written[..stores.len()],
-        frame,
-        &mut holds,
-    );
+    let mut holds = Strip::none(lanes.row);
+    found_truths(condition, lanes, stores, frame, &mut holds);
     let known = size.min(holds.size);
-    let met = mask_where(mask, &holds.words);
-    let unmet = mask_unless(mask, &holds.words);
-    let left = statements(body, Some(&met), names, row, frame, stores, known);
-    alternative(otherwise, Some(&unmet), names, row, frame, stores, left)
+    narrow(lanes.mask, &mut holds);
+    let mask = Some(&holds.words);
+    let met = Lanes {
+        names: lanes.names,
+        row: lanes.row,
+        mask,
+    };
+    let left = statements(body, &met, frame, strip, stores, known);
+    let Else::Do(step) = otherwise else {
+        return left;
+    };
+    turn_over(lanes.mask, &mut holds);
+    let mask = Some(&holds.words);
+    let unmet = Lanes {
+        names: lanes.names,
+        row: lanes.row,
+        mask,
+    };
+    statement(step, &unmet, frame, strip, stores, left)
 }
 
-// What stands behind `else`.
-#[cycle(found)]
-fn alternative<'t, A: Arrays>(
-    otherwise: &Else<'t>,
-    mask: Option<&[i64; STRIP]>,
-    names: &Names<'t>,
-    row: Row,
-    frame: &Frame<A>,
-    stores: &mut [Store],
-    size: usize,
-) -> usize
-    requires few { length stores.old ≤ 4 }
-    requires apart { AreApart names.now stores.old }
-    ensures most { result ≤ size }
-    ensures few { length stores.new ≤ 4 }
-    ensures apart { AreApart names.now stores.new }
-    ensures found { (w : Standing) → AreFound frame.now.limits names.now row frame.now.memory (else_body (else_in w otherwise.now))
-        (option_map (λ ms. ms.now) mask.entry) result stores.old stores.new }
-{
-    match otherwise {
-        Else::Absent => size,
-        Else::Do(step) => statement(step, mask, names, row, frame, stores, size),
-    }
-}
-
-// Makes the turns of a row's indices, at most so many, by these stores; how many.
-fn made<'t, A: Arrays>(
+/// Makes turns of a row's first indices by these stores, as many as a strip has and at most so many; how many. The strip is lent.
+///
+/// # Errors
+/// Out of memory for a copy of an array that isn't the frame's own; then nothing is said of the frame.
+pub(crate) fn made<'t, A: Arrays>(
     names: &Names<'t>,
     body: &[Step<'t>],
     row: Row,
     most: usize,
+    strip: &mut Strip,
     stores: &mut [Store],
     frame: &mut Frame<A>,
 ) -> Result<usize, AllocError>
     requires { length stores.old ≤ 4 }
     ensures most { IfOk result (λ made. made ≤ most) }
+    ensures cap { IfOk result (λ made. made ≤ 64) }
+    ensures few { length stores.new ≤ 4 }
     ensures done { (w : Standing) → IfOk result (λ made.
         AreDone (index_turn frame.old.limits names.now (steps_in w body.now)) row made frame.old.memory frame.new.memory) }
     ensures limits { frame.new.limits ≡ frame.old.limits }
@@ -285,7 +270,12 @@ fn made<'t, A: Arrays>(
     if !has_room(row) || !are_apart(names, stores) {
         return Ok(0);
     }
-    let size = statements(body, None, names, row, frame, stores, most.min(STRIP));
+    let lanes = Lanes {
+        names,
+        row,
+        mask: None,
+    };
+    let size = statements(body, &lanes, frame, strip, stores, most.min(STRIP));
     if size == 0 {
         return Ok(0);
     }
@@ -294,7 +284,7 @@ fn made<'t, A: Arrays>(
     Ok(size)
 }
 
-// The same by one store. The room for stores is cleared at the entry of the function that has it, so there are two of them.
+// The turns of a row by one store. The room for stores is cleared at the entry of the function that has it, so there are two of them.
 #[inline(never)]
 fn by_one<'t, A: Arrays>(
     names: &Names<'t>,
@@ -310,7 +300,7 @@ fn by_one<'t, A: Arrays>(
     ensures limits { frame.new.limits ≡ frame.old.limits }
 {
     let mut stores = [Store::unmade(variable)];
-    made(names, body, row, most, &mut stores, frame)
+    make_strips(names, body, row, most, &mut stores, frame)
 }
 
 // And by the first of these variables, so many.
@@ -335,7 +325,7 @@ fn by_some<'t, A: Arrays>(
         stores[k].slot = found[k].slot;
         stores[k].at = found[k].at;
     }
-    made(names, body, row, most, &mut stores[..count], frame)
+    make_strips(names, body, row, most, &mut stores[..count], frame)
 }
 
 /// Makes the turns of a row's indices, at most so many, where each of their statements is found several turns at once; how many.

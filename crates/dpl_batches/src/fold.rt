@@ -41,8 +41,9 @@ fn folded_one(fold: IntFold, word: i64, value: i64) -> i64
     combined_ints(fold, word, value)
 }
 
-/// A word after so many ints of a strip.
-pub(crate) fn folded(fold: IntFold, word: i64, words: &[i64; STRIP], size: usize) -> i64
+// A word after so many ints of a strip. It is inlined where the operator is known, so its loop doesn't ask for it.
+#[inline(always)]
+fn folded_by(fold: IntFold, word: i64, words: &[i64; STRIP], size: usize) -> i64
     requires { size ≤ 64 }
     ensures { result ≡ folded_words fold word words.now size }
 {
@@ -53,8 +54,25 @@ pub(crate) fn folded(fold: IntFold, word: i64, words: &[i64; STRIP], size: usize
     made
 }
 
-/// The same, where those ints count alone at whose places a mask has another word than 0.
-pub(crate) fn folded_where(
+/// A word after so many ints of a strip.
+pub(crate) fn folded(fold: IntFold, word: i64, words: &[i64; STRIP], size: usize) -> i64
+    requires { size ≤ 64 }
+    ensures { result ≡ folded_words fold word words.now size }
+{
+    match fold {
+        IntFold::Sum => folded_by(IntFold::Sum, word, words, size),
+        IntFold::Product => folded_by(IntFold::Product, word, words, size),
+        IntFold::BitAnd => folded_by(IntFold::BitAnd, word, words, size),
+        IntFold::BitOr => folded_by(IntFold::BitOr, word, words, size),
+        IntFold::BitXor => folded_by(IntFold::BitXor, word, words, size),
+        IntFold::Least => folded_by(IntFold::Least, word, words, size),
+        IntFold::Greatest => folded_by(IntFold::Greatest, word, words, size),
+    }
+}
+
+// The same, where those ints count alone at whose places a mask has another word than 0.
+#[inline(always)]
+fn folded_where_by(
     fold: IntFold,
     word: i64,
     mask: &[i64; STRIP],
@@ -70,6 +88,28 @@ pub(crate) fn folded_where(
         made = chosen(mask[k], made, next);
     }
     made
+}
+
+/// A word after those of so many ints of a strip at whose places a mask has another word than 0.
+pub(crate) fn folded_where(
+    fold: IntFold,
+    word: i64,
+    mask: &[i64; STRIP],
+    words: &[i64; STRIP],
+    size: usize,
+) -> i64
+    requires { size ≤ 64 }
+    ensures { result ≡ folded_where fold word mask.now words.now size }
+{
+    match fold {
+        IntFold::Sum => folded_where_by(IntFold::Sum, word, mask, words, size),
+        IntFold::Product => folded_where_by(IntFold::Product, word, mask, words, size),
+        IntFold::BitAnd => folded_where_by(IntFold::BitAnd, word, mask, words, size),
+        IntFold::BitOr => folded_where_by(IntFold::BitOr, word, mask, words, size),
+        IntFold::BitXor => folded_where_by(IntFold::BitXor, word, mask, words, size),
+        IntFold::Least => folded_where_by(IntFold::Least, word, mask, words, size),
+        IntFold::Greatest => folded_where_by(IntFold::Greatest, word, mask, words, size),
+    }
 }
 
 /// The second of two words, unless the word of a mask is 0.

@@ -9,6 +9,7 @@ ghost use Rattle.dpl_batches.specs.Stores.{unmade, by_now, stored_in_turns, each
 
 use crate::fold::folded_where;
 use crate::turn::{behind, has_room, is_variable};
+use dpl_elements::rest_of;
 use dpl_frame::{Arrays, Frame};
 use dpl_loop::{Row, STRIP};
 use dpl_nodes::{IntFold, Names};
@@ -70,6 +71,17 @@ impl Store {
         self.words = *words;
     }
 
+    // Nothing as yet of the turns behind so many.
+    fn begin_behind(&mut self, size: usize)
+        requires { size ≤ 64 }
+    {
+        self.fold = None;
+        self.is_made = false;
+        if let Some(rest) = rest_of(self.at, size) {
+            self.at = rest;
+        }
+    }
+
     /// As statements find it by now.
     fn target(&self) -> Target<'_>
         ensures { written result ≡ by_now self.now }
@@ -86,8 +98,14 @@ impl Store {
     }
 }
 
-// A target that stands for nothing.
-fn none<'w>(row: Row) -> Target<'w> {
+// The target at a place, as statements find it by now; behind the last one, one that stands for nothing.
+#[inline(always)]
+fn target_at(stores: &[Store], k: usize, row: Row) -> Target<'_>
+    ensures { (x : Store) → slice_get stores.now k ≡ Some x → written result ≡ by_now x }
+{
+    if k < stores.len() {
+        return stores[k].target();
+    }
     Target {
         slot: 0,
         at: row,
@@ -96,15 +114,17 @@ fn none<'w>(row: Row) -> Target<'w> {
 }
 
 /// Each as statements find it by now; behind them, whatever is there.
+#[inline(always)]
 pub(crate) fn targets(stores: &[Store], row: Row) -> [Target<'_>; MOST]
     requires { length stores.now ≤ 4 }
     ensures { map written (take (length stores.now) result) ≡ map by_now stores.now }
 {
-    let mut targets = [none(row), none(row), none(row), none(row)];
-    for k in 0..stores.len() {
-        targets[k] = stores[k].target();
-    }
-    targets
+    [
+        target_at(stores, 0, row),
+        target_at(stores, 1, row),
+        target_at(stores, 2, row),
+        target_at(stores, 3, row),
+    ]
 }
 
 /// The place of the store of a slot.
@@ -129,6 +149,17 @@ fn is_kept(stores: &[Store], from: usize, slot: usize) -> bool
         }
     }
     false
+}
+
+/// Nothing as yet of the turns behind so many of a row. Each store's elements go on as they went; whether they do is asked for when turns are
+/// found.
+pub(crate) fn begin_again(stores: &mut [Store], size: usize)
+    requires { size ≤ 64 }
+    ensures { length stores.new ≡ length stores.old }
+{
+    for k in 0..stores.len() {
+        stores[k].begin_behind(size);
+    }
 }
 
 /// Whether each store is as yet unmade and has a slot of its own, which no variable of the loop has, and whose elements have room.

@@ -1,8 +1,13 @@
 -- Turns whose ints, or truth values, go into elements side by side: the body of each is one assignment to an element.
 -- In each turn the variables hold its index, and the arrays are as the turns before have left them.
-use Rattle.std.proofs.Common.{◌≡◌, ◌<◌, ◌≤◌, ◌+◌, ℕ, zero, suc, List, pos, false, get_or, None, Ok, refl, sym, subst, ap, ◌∙◌, arith}
+use Rattle.std.proofs.Common.{◌≡◌, ◌<◌, ◌≤◌, ◌+◌, ◌-◌, ◌*◌, ⊎_elim, ℕ, zero, suc, ℤ, pos, negsuc, ◌+ℤ◌, ◌*ℤ◌, false, List, [], ◌∷◌, length, get_or, None, Ok, refl, sym, subst, ap, ◌∙◌, mul-add, arith}
+use Rattle.std.proofs.lemmas.Bool.{cases_lt}
+use Rattle.std.proofs.lemmas.Int.{ints}
+use Rattle.std.proofs.Math.IntN.{*ℤ-zero, pos-*ℤ-pos, negsuc-*ℤ-pos}
 use Rattle.dpl_syntax.specs.declared.place.Place.{Place}
-use Rattle.dpl_array.specs.Elements.{Row, behind}
+use Rattle.dpl_domain.specs.Ranks.{last_of}
+use Rattle.dpl_array.specs.Elements.{Row, along, behind}
+use Rattle.dpl_array.proofs.Behind.{last-along}
 use Rattle.dpl_language.specs.Tree.{Assign, AssignTree, Set, IntKind, BoolKind, StmtTree, NoStmts, Then}
 use Rattle.dpl_language.specs.Values.{Value, Int, Truth, Index}
 use Rattle.dpl_language.specs.Arithmetic.{assigned, assign_divides}
@@ -34,6 +39,109 @@ use Rattle.dpl_elements.proofs.Elements.{exec-element, change-put}
 -- no turns are done where nothing has changed
 pub none-done : (turn : Index → Run Memory) (t : Row) (s : Memory) → AreDone turn t 0 s s
 none-done turn t s = record { between = λ k. s; begins = refl; ends = refl; each = λ k below done. absurd (omega (arith, below)) }
+
+-- A ROW IN PARTS: the index so many behind its first, by the coordinates
+pub behind-at : (row : Row) (k : ℕ) (x y z : ℤ) (n : ℕ) → row.first ≡ last_of (length row.first) x y z → length row.first ≡ n → last_of n x y (z +ℤ row.step *ℤ pos k) ≡ behind k row
+behind-at row k x y z n coordinates long =
+    last-along (row.step *ℤ pos k) n x y (z +ℤ row.step *ℤ pos k) z refl
+    ∙ ap (along (row.step *ℤ pos k)) (sym (coordinates ∙ ap (λ n. last_of n x y z) long))
+
+-- its first turns, and those of the rest of it behind them
+along-none : (d : ℤ) (is : List ℤ) → d ≡ pos 0 → along d is ≡ is
+along-none d [] none = refl
+along-none d (i ∷ []) none = ap (λ n. n ∷ []) (ap (λ d. i +ℤ d) none ∙ omega (arith, ints))
+along-none d (i ∷ j ∷ is) none = ap (λ js. i ∷ js) (along-none d (j ∷ is) none)
+
+times-sum : (s : ℤ) (a j : ℕ) → s *ℤ pos (a + j) ≡ s *ℤ pos a +ℤ s *ℤ pos j
+times-sum (pos s) a j =
+    let sum : s * (a + j) ≡ s * a + s * j = mul-add s a j in
+    omega (arith, ints, sum, pos-*ℤ-pos s (a + j), pos-*ℤ-pos s a, pos-*ℤ-pos s j)
+times-sum (negsuc s) a j =
+    let sum : suc s * (a + j) ≡ suc s * a + suc s * j = mul-add (suc s) a j in
+    omega (arith, ints, sum, negsuc-*ℤ-pos s (a + j), negsuc-*ℤ-pos s a, negsuc-*ℤ-pos s j)
+
+along-again : (d e : ℤ) (is : List ℤ) → along d (along e is) ≡ along (e +ℤ d) is
+along-again d e [] = refl
+along-again d e (i ∷ []) = ap (λ n. n ∷ []) (omega (arith, ints))
+along-again d e (i ∷ j ∷ []) = ap (λ js. i ∷ js) (along-again d e (j ∷ []))
+along-again d e (i ∷ j ∷ k ∷ is) = ap (λ js. i ∷ js) (along-again d e (j ∷ k ∷ is))
+
+behind-none : (row : Row) → behind 0 row ≡ row.first
+behind-none row = along-none (row.step *ℤ pos 0) row.first (*ℤ-zero row.step)
+
+behind-more : (row : Row) (a j : ℕ) → behind j (record { first = behind a row; step = row.step }) ≡ behind (a + j) row
+behind-more row a j =
+    along-again (row.step *ℤ pos j) (row.step *ℤ pos a) row.first
+    ∙ ap (λ d. along d row.first) (sym (times-sum row.step a j))
+
+-- the rest of a row's rest
+pub rest-again : (row here rest : Row) (a b : ℕ) → here ≡ record { first = behind a row; step = row.step } → rest ≡ record { first = behind b here; step = here.step }
+    → rest ≡ record { first = behind (a + b) row; step = row.step }
+rest-again row here rest a b here_is rest_is =
+    rest_is
+    ∙ ap (λ (t : Row). record { first = behind b t; step = t.step }) here_is
+    ∙ ap {A = List ℤ} {B = Row} (λ first. record { first = first; step = row.step }) (behind-more row a b)
+
+pub whole-rest : (row : Row) → row ≡ record { first = behind 0 row; step = row.step }
+whole-rest row = ap {A = List ℤ} {B = Row} (λ first. record { first = first; step = row.step }) (sym (behind-none row))
+
+-- what stands between the first turns and those behind them
+abbrev joined : ℕ → (ℕ → Memory) → (ℕ → Memory) → ℕ → Memory
+joined zero f g k = g k
+joined (suc a) f g zero = f zero
+joined (suc a) f g (suc k) = joined a (λ j. f (suc j)) g k
+
+joined-first : (a : ℕ) (f g : ℕ → Memory) (k : ℕ) → f a ≡ g 0 → k ≤ a → joined a f g k ≡ f k
+joined-first zero f g zero meets most = sym meets
+joined-first zero f g (suc k) meets most = absurd (omega (arith, most))
+joined-first (suc a) f g zero meets most = refl
+joined-first (suc a) f g (suc k) meets most = joined-first a (λ j. f (suc j)) g k meets (omega (arith, most))
+
+joined-behind : (a : ℕ) (f g : ℕ → Memory) (j : ℕ) → joined a f g (a + j) ≡ g j
+joined-behind zero f g j =
+    let same : 0 + j ≡ j = omega arith in
+    ap g same
+joined-behind (suc a) f g j =
+    let same : suc a + j ≡ suc (a + j) = omega arith in
+    ap (joined (suc a) f g) same ∙ joined-behind a (λ j. f (suc j)) g j
+
+pub rest-done : (turn : Index → Run Memory) (row rest : Row) (a b : ℕ) (s m n : Memory) → rest ≡ record { first = behind a row; step = row.step }
+    → AreDone turn row a s m → AreDone turn rest b m n → AreDone turn row (a + b) s n
+rest-done turn row rest a b s m n is first second = record {
+  between = joined a first.between second.between;
+  begins = joined-first a first.between second.between 0 meets (omega arith) ∙ first.begins;
+  ends = joined-behind a first.between second.between b ∙ second.ends;
+  each = each;
+}
+  where
+    meets : first.between a ≡ second.between 0
+    meets = first.ends ∙ sym second.begins
+
+    f : ℕ → Memory
+    f = joined a first.between second.between
+
+    here : (k : ℕ) → k < a → (done : Deeds) → turn (behind k row) (f k) done ≡ Done (f (k + 1)) done
+    here k below done =
+        ap (λ m. turn (behind k row) m done) (joined-first a first.between second.between k meets (omega (arith, below)))
+        ∙ first.each k below done
+        ∙ ap (λ m. Done m done) (sym (joined-first a first.between second.between (k + 1) meets (omega (arith, below))))
+
+    there : (j : ℕ) → j < b → (done : Deeds) → turn (behind (a + j) row) (f (a + j)) done ≡ Done (f (a + j + 1)) done
+    there j below done =
+        let next : a + (j + 1) ≡ a + j + 1 = omega arith in
+        ap (λ m. turn (behind (a + j) row) m done) (joined-behind a first.between second.between j)
+        ∙ ap (λ t. turn t (second.between j) done) (sym (ap (behind j) is ∙ behind-more row a j))
+        ∙ second.each j below done
+        ∙ ap (λ m. Done m done) (sym (joined-behind a first.between second.between (j + 1)) ∙ ap f next)
+
+    each : (k : ℕ) → k < a + b → (done : Deeds) → turn (behind k row) (f k) done ≡ Done (f (k + 1)) done
+    each k below done =
+        ⊎_elim
+        (λ (first : k < a). here k first done)
+        (λ (later : a ≤ k).
+        let same : a + (k - a) ≡ k = omega (arith, later) in
+        subst (λ k. turn (behind k row) (f k) done ≡ Done (f (k + 1)) done) same (there (k - a) (omega (arith, later, below)) done))
+        (cases_lt k a)
 
 -- turns that change the element at their own index
 pub whole-row : (limits : Limits) (x : ArrayName) (sign : AssignTree) (turn : Index → Run Memory) (first : Row) (strip : Strip) (size : ℕ) (s : Memory) (arrays : List Held) → ArePut limits x sign first strip size s.arrays arrays

@@ -1,7 +1,7 @@
 // Ints that go into the elements of a row, by whichever operator divides none.
 // It is as if each went into its element alone, one after another: none of them has a fault.
 
-ghost use Rattle.std.specs.Prelude.{◌≡◌, ◌≤◌, ◌<◌, ℕ, ℤ, pos, false, List, Some, None, length, get_or};
+ghost use Rattle.std.specs.Prelude.{◌≡◌, ◌≤◌, ◌<◌, ℕ, ℤ, pos, false, List, Some, None, length, get_or, IfSome};
 ghost use Rattle.dpl_array.specs.Elements.{behind};
 ghost use Rattle.dpl_language.specs.Values.{Int};
 ghost use Rattle.dpl_language.specs.Arithmetic.{assigned, assign_divides};
@@ -14,6 +14,7 @@ use crate::element::{assigned, divides, replaces};
 use dpl_frame::{Arrays, Frame};
 use dpl_loop::{Row, STRIP, Strip};
 use dpl_nodes::{ArrayName, Spot};
+use dpl_strips::index::{coordinate, plane, space};
 use dpl_tree::Assign;
 
 /// What an operator makes of old words and of the ints of a strip, in the strip, as many as there are old words; nothing of an operator that
@@ -77,4 +78,24 @@ pub fn put_row<A: Arrays>(
     changed(name, op, at, strip, frame);
     let size = strip.size.min(most).min(STRIP);
     frame.put_run(name.slot, at, &strip.words[..size])
+}
+
+/// The rest of a row, behind so many of its first indices. None where its last coordinate would leave its word.
+pub fn rest_of(row: Row, size: usize) -> Option<Row>
+    requires { size ≤ 64 }
+    ensures { IfSome result (λ rest. rest ≡ record { first = behind size row; step = row.step }) }
+{
+    let first = row.first();
+    let (outer, middle, inner) = first.numbers();
+    let Some(far) = row.step().checked_mul(size as i64) else {
+        return None;
+    };
+    let Some(last) = inner.checked_add(far) else {
+        return None;
+    };
+    match first.rank() {
+        1 => Some(row.begun_at(coordinate(last))),
+        2 => Some(row.begun_at(plane(middle, last))),
+        _ => Some(row.begun_at(space(outer, middle, last))),
+    }
 }

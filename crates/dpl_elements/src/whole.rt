@@ -2,7 +2,7 @@
 // A right side without a whole array is evaluated once; one with a whole array is evaluated at each index anew. Each is a forall
 // over the array's domain, which a crew makes.
 
-ghost use Rattle.std.specs.Prelude.{◌≡◌, ◌⊎◌, List, Some, None};
+ghost use Rattle.std.specs.Prelude.{◌≡◌, ◌≤◌, ◌⊎◌, List, Some, None};
 ghost use Rattle.dpl_sets.specs.TextRanges.{TextRange};
 ghost use Rattle.dpl_language.specs.Tree.{IntKind, BoolKind, Set};
 ghost use Rattle.dpl_language.specs.Values.{Int, Truth};
@@ -18,16 +18,16 @@ ghost use Rattle.dpl_nodes.specs.Steps.{array_leaf, whole_set};
 ghost use Rattle.dpl_elements.specs.Changes.{signed};
 ghost use Rattle.dpl_elements.specs.Arrays.{array_set};
 ghost use Rattle.dpl_frame.specs.Frames.{owned_by};
-ghost use Rattle.dpl_loop.specs.Runs.{RunsTo};
+ghost use Rattle.dpl_loop.specs.Runs.{RunsTo, AreDone};
 ghost use Rattle.dpl_loop.specs.Entries.{MayRefuse};
 ghost use Rattle.dpl_values.specs.Reductions.{MayRefuseReduction, EachInInts, EachInTruths};
 ghost use Rattle.dpl_elements.specs.Refusals.{MayRefuseWhole};
-ghost use Rattle.dpl_elements.specs.Wholes.{whole_turn};
+ghost use Rattle.dpl_elements.specs.Wholes.{filled, promoted, whole_turn};
 
 use crate::apart::whole_apart;
 use crate::crew::Crew;
 use crate::element::{change, change_truth};
-use crate::row::put_row;
+use crate::row::{put_row, rest_of};
 use dpl_dependence::{int_reads_own, truth_reads_own};
 use dpl_domain::Index;
 use dpl_frame::{Arrays, DomainWord, Frame};
@@ -51,23 +51,31 @@ pub struct Fill<'e> {
     written: [usize; 1],
 }
 
+impl<'e> Fill<'e> {
+    // Makes the turns of a row's first indices, as many as a strip has and at most so many; how many. The strip is lent.
+    fn make_strip<A: Arrays>(
+        &self,
+        row: Row,
+        most: usize,
+        strip: &mut Strip,
+        frame: &mut Frame<A>,
+    ) -> usize
+        ensures most { result ≤ most }
+        ensures cap { result ≤ 64 }
+        ensures done { AreDone (filled self.now frame.old.limits) row result frame.old.memory frame.new.memory }
+        ensures limits { frame.new.limits ≡ frame.old.limits }
+    {
+        repeat(strip, self.value);
+        put_row(self.name, self.op, self.sign, row, strip, most, frame)
+    }
+}
+
 impl<'e> Turns for Fill<'e> {
     ghost turn = { λ c limits t. change limits in_memory (array_leaf IntKind c.name.now) (signed c.op c.sign.now) t (Int c.value) };
 
     #[inline(always)]
     fn make<A: Arrays>(&self, index: Index, frame: &mut Frame<A>) -> Result<(), RunStop> {
         change(self.name, self.op, self.sign, index, self.value, frame)
-    }
-
-    fn make_row<A: Arrays>(
-        &self,
-        row: Row,
-        most: usize,
-        frame: &mut Frame<A>,
-    ) -> Result<usize, AllocError> {
-        let mut strip = Strip::none(row);
-        repeat(&mut strip, self.value);
-        Ok(put_row(self.name, self.op, self.sign, row, &mut strip, most, frame))
     }
 
     fn apart(&self) -> Option<Apart<'_>> {
@@ -86,6 +94,26 @@ pub struct Promote<'e, 'x> {
     written: [usize; 1],
 }
 
+impl<'e, 'x> Promote<'e, 'x> {
+    // The same of an int that is evaluated at each index.
+    fn make_strip<A: Arrays>(
+        &self,
+        row: Row,
+        most: usize,
+        strip: &mut Strip,
+        frame: &mut Frame<A>,
+    ) -> usize
+        ensures most { result ≤ most }
+        ensures cap { result ≤ 64 }
+        ensures done { AreDone (promoted self.now frame.old.limits) row result frame.old.memory frame.new.memory }
+        ensures limits { frame.new.limits ≡ frame.old.limits }
+    {
+        strip.row = row;
+        promoted_ints(self.e, frame, strip);
+        put_row(self.name, self.op, self.sign, row, strip, most, frame)
+    }
+}
+
 impl<'e, 'x> Turns for Promote<'e, 'x> {
     ghost turn = { λ c limits t s done. with_value (value_of limits in_memory (promoted_int EachTurn c.e.now) (Some t) s)
         (change limits in_memory (array_leaf IntKind c.name.now) (signed c.op c.sign.now) t) s done };
@@ -94,17 +122,6 @@ impl<'e, 'x> Turns for Promote<'e, 'x> {
     fn make<A: Arrays>(&self, index: Index, frame: &mut Frame<A>) -> Result<(), RunStop> {
         let value = promoted_int_value(self.e, &index, frame, &Alone::at(&OpenGate))?;
         change(self.name, self.op, self.sign, index, value, frame)
-    }
-
-    fn make_row<A: Arrays>(
-        &self,
-        row: Row,
-        most: usize,
-        frame: &mut Frame<A>,
-    ) -> Result<usize, AllocError> {
-        let mut strip = Strip::none(row);
-        promoted_ints(self.e, frame, &mut strip);
-        Ok(put_row(self.name, self.op, self.sign, row, &mut strip, most, frame))
     }
 
     fn apart(&self) -> Option<Apart<'_>> {
@@ -175,6 +192,28 @@ pub enum WholeTurns<'e, 'x> {
     PromoteTruth(PromoteTruth<'e, 'x>),
 }
 
+impl<'e, 'x> WholeTurns<'e, 'x> {
+    // The same by its form. Truth values are put one by one.
+    fn make_strip<A: Arrays>(
+        &self,
+        row: Row,
+        most: usize,
+        strip: &mut Strip,
+        frame: &mut Frame<A>,
+    ) -> usize
+        ensures most { result ≤ most }
+        ensures cap { result ≤ 64 }
+        ensures done { AreDone (whole_turn self.now frame.old.limits) row result frame.old.memory frame.new.memory }
+        ensures limits { frame.new.limits ≡ frame.old.limits }
+    {
+        match self {
+            WholeTurns::Fill(turns) => turns.make_strip(row, most, strip, frame),
+            WholeTurns::Promote(turns) => turns.make_strip(row, most, strip, frame),
+            WholeTurns::FillTruth(_) | WholeTurns::PromoteTruth(_) => 0,
+        }
+    }
+}
+
 impl<'e, 'x> Turns for WholeTurns<'e, 'x> {
     ghost turn = { whole_turn };
 
@@ -194,12 +233,21 @@ impl<'e, 'x> Turns for WholeTurns<'e, 'x> {
         most: usize,
         frame: &mut Frame<A>,
     ) -> Result<usize, AllocError> {
-        match self {
-            WholeTurns::Fill(turns) => turns.make_row(row, most, frame),
-            WholeTurns::Promote(turns) => turns.make_row(row, most, frame),
-            WholeTurns::FillTruth(turns) => turns.make_row(row, most, frame),
-            WholeTurns::PromoteTruth(turns) => turns.make_row(row, most, frame),
+        let mut strip = Strip::none(row);
+        let mut here = row;
+        let mut made = 0;
+        while made < most {
+            let more = self.make_strip(here, most - made, &mut strip, frame);
+            if more == 0 {
+                break;
+            }
+            made += more;
+            let Some(rest) = rest_of(here, more) else {
+                break;
+            };
+            here = rest;
         }
+        Ok(made)
     }
 
     fn apart(&self) -> Option<Apart<'_>> {

@@ -103,7 +103,15 @@ fn tell_layout<R: Threads + Wait + Sync>(
     Ok(())
 }
 
-// Tells what a row writes by every setting.
+// Whether a row is run by a layout.
+fn is_asked(row: &Row<'_>, layout: usize) -> bool {
+    match LAYOUTS.get(layout) {
+        Some((locales, _, _)) => row.locales == 0 || row.locales == *locales,
+        None => false,
+    }
+}
+
+// Tells what a row writes by every setting: what it writes on one locale, and what is something else by one of the others.
 fn tell_row<R: Threads + Wait + Sync>(
     rt: &R,
     alloc: Global,
@@ -113,7 +121,9 @@ fn tell_row<R: Threads + Wait + Sync>(
     let first = answer(rt, alloc, row, 0, (Maps::AsIs, false))?;
     told.extend_from_slice(&first)?;
     for layout in 0..LAYOUTS.len() {
-        tell_layout(rt, alloc, row, layout, &first, told)?;
+        if is_asked(row, layout) {
+            tell_layout(rt, alloc, row, layout, &first, told)?;
+        }
     }
     told.extend_from_slice(b"==\n")
 }

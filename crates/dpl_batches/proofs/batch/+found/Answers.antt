@@ -1,65 +1,72 @@
 -- Statements by their forms: each comes to what is kept back after it.
 -- These are the answers to the goals of the functions that find statements.
-use Rattle.std.proofs.Common.{◌≡◌, ◌<◌, ◌≤◌, ◌+◌, Some, None, drop, length, slice_get, option_map, sym, subst, ap, ◌∙◌, arith, rules}
+use Rattle.std.proofs.Common.{◌≡◌, ◌<◌, ◌≤◌, ◌+◌, Some, drop, length, slice_get, option_map, sym, subst, ap, ◌∙◌, arith, rules}
 use Rattle.std.proofs.lemmas.Option.{slice_get-get_or}
 use Rattle.dpl_range.proofs.Lists.{drop-slice_get}
-use Rattle.dpl_language.specs.Tree.{NoStmts, Then}
-use Rattle.dpl_language.specs.Expressions.{value_of}
-use Rattle.dpl_memory.specs.Memory.{in_memory}
+use Rattle.dpl_language.specs.Tree.{If, NoStmts, Then}
+use Rattle.dpl_lowered.specs.Shapes.{nowhere}
 use Rattle.dpl_standing.specs.Standing.{Outside}
 use Rattle.dpl_nodes.specs.Typed.{truth_view}
+use Rattle.dpl_nodes.specs.Steps.{listed}
 use Rattle.dpl_readings.specs.Readings.{step_in, else_in, steps_in}
 use Rattle.dpl_readings.proofs.Views.{block_in, if_in}
-use Rattle.dpl_strips.specs.Truths.{TruthsHoldInTurns}
 use Rattle.dpl_batches.specs.Stores.{AreFound, else_body}
-use Rattle.dpl_batches.proofs.Found.{block-found, branches-found, LeftToFind, next-left}
+use Rattle.dpl_batches.proofs.Found.{block-found, branch-found, branches-found, LeftToFind, next-left}
 use Rattle.dpl_batches.proofs.batch.+found.Goals as goal
 
 pub branches-returns-clause-found : goal.branches-returns-clause-found
 branches-returns-clause-found g t c w =
     let f = c.args.frame.now in
-    let names = c.args.names.now in
-    let row = c.args.row in
+    let names = c.args.lanes.now.names.now in
+    let row = c.args.lanes.now.row in
     let xs = c.args.stores.now in
-    let mask = option_map (λ ms. ms.now) c.args.mask in
-    let e = truth_view c.in-If.condition.now in
-    let body = steps_in w c.in-If.body.now in
-    let other = else_in w c.in-If.otherwise in
-    let holds = c.turn_truths.new.strip in
-    let zs = c.alternative.new.stores in
-    let size = c.alternative.result in
-    let truths = subst (λ ws. TruthsHoldInTurns names ws (λ u. value_of f.limits in_memory e None u) f.memory holds) c.targets-written.ensures c.turn_truths.ensures.values in
+    let mask = option_map (λ ms. ms.now) c.args.lanes.now.mask in
+    let zs = c.statement.new.stores in
+    let size = c.statement.result in
     subst (λ t. AreFound f.limits names row f.memory (Then (step_in w t) NoStmts) mask size xs zs) (sym c.in-If.is)
     (subst (λ t. AreFound f.limits names row f.memory (Then t NoStmts) mask size xs zs) (sym (if_in w c.in-If.condition c.in-If.body c.in-If.otherwise))
-    (branches-found f.limits names row f.memory mask c.mask_where-met.result c.mask_unless-unmet.result e body other xs c.statements-left.new.stores zs
-    c.min-known.result c.statements-left.result size c.requires.apart holds (c.turn_truths.ensures.row ∙ c.none-holds.ensures.row) (search rules)
-    c.statements-left.ensures.most c.alternative.ensures.most c.mask_where-met.ensures c.mask_unless-unmet.ensures truths (c.statements-left.ensures.found w) (c.alternative.ensures.found w)))
+    (branches-found f.limits names row f.memory mask c.narrow.new.holds.words (truth_view c.in-If.condition.now) (steps_in w c.in-If.body.now) xs c.statements-left.new.stores
+    c.min-known.result c.statements-left.result c.requires.apart c.found_truths.new.strip c.found_truths.ensures.row (search rules) c.statements-left.ensures.most
+    c.narrow.ensures c.found_truths.ensures.values (c.statements-left.ensures.found w)
+    (else_in w c.in-If.otherwise) c.turn_over.new.met.words zs size c.statement.ensures.most c.turn_over.ensures
+    (subst (λ o. AreFound f.limits names row f.memory (else_body (else_in w o)) (Some c.turn_over.new.met.words) size c.statements-left.new.stores zs) (sym c.in-Do.is) (c.statement.ensures.found w))))
+
+pub branches-returns-in_default-otherwise-clause-found : goal.branches-returns-in_default-otherwise-clause-found
+branches-returns-in_default-otherwise-clause-found g t c w =
+    let f = c.args.frame.now in
+    let names = c.args.lanes.now.names.now in
+    let row = c.args.lanes.now.row in
+    let xs = c.args.stores.now in
+    let mask = option_map (λ ms. ms.now) c.args.lanes.now.mask in
+    let ys = c.statements-left.new.stores in
+    let left = c.statements-left.result in
+    subst (λ t. AreFound f.limits names row f.memory (Then (step_in w t) NoStmts) mask left xs ys) (sym c.in-If.is)
+    (subst (λ t. AreFound f.limits names row f.memory (Then t NoStmts) mask left xs ys) (sym (if_in w c.in-If.condition c.in-If.body c.in-If.otherwise))
+    (subst (λ o. AreFound f.limits names row f.memory (Then (If nowhere (truth_view c.in-If.condition.now) (listed (steps_in w c.in-If.body.now)) (else_in w o)) NoStmts) mask left xs ys)
+    (sym c.in_default-otherwise.is)
+    (branch-found f.limits names row f.memory mask c.narrow.new.holds.words (truth_view c.in-If.condition.now) (steps_in w c.in-If.body.now) xs ys
+    c.min-known.result left c.requires.apart c.found_truths.new.strip c.found_truths.ensures.row (search rules) c.statements-left.ensures.most
+    c.narrow.ensures c.found_truths.ensures.values (c.statements-left.ensures.found w))))
 
 pub statement-returns-in-Block-clause-found : goal.statement-returns-in-Block-clause-found
 statement-returns-in-Block-clause-found g t c w =
     let f = c.args.frame.now in
-    let names = c.args.names.now in
-    let row = c.args.row in
+    let names = c.args.lanes.now.names.now in
+    let row = c.args.lanes.now.row in
     let xs = c.args.stores.now in
-    let mask = option_map (λ ms. ms.now) c.args.mask in
+    let mask = option_map (λ ms. ms.now) c.args.lanes.now.mask in
     let ys = c.statements.new.stores in
     let size = c.statements.result in
     subst (λ t. AreFound f.limits names row f.memory (Then (step_in w t) NoStmts) mask size xs ys) (sym c.in-Block.is)
     (subst (λ t. AreFound f.limits names row f.memory (Then t NoStmts) mask size xs ys) (sym (block_in w c.in-Block.body))
     (block-found f.limits names row f.memory mask (steps_in w c.in-Block.body.now) size xs ys (c.statements.ensures.found w)))
 
-pub alternative-returns-in-Do-clause-found : goal.alternative-returns-in-Do-clause-found
-alternative-returns-in-Do-clause-found g t c w =
-    let f = c.args.frame.now in
-    subst (λ o. AreFound f.limits c.args.names.now c.args.row f.memory (else_body (else_in w o)) (option_map (λ ms. ms.now) c.args.mask) c.statement.result c.args.stores.now c.statement.new.stores)
-    (sym c.in-Do.is) (c.statement.ensures.found w)
-
 pub statements-loop-k-preserved : goal.statements-loop-k-preserved
 statements-loop-k-preserved g t c =
     let f = c.args.frame.now in
-    let names = c.args.names.now in
-    let row = c.args.row in
-    let mask = option_map (λ ms. ms.now) c.args.mask in
+    let names = c.args.lanes.now.names.now in
+    let row = c.args.lanes.now.row in
+    let mask = option_map (λ ms. ms.now) c.args.lanes.now.mask in
     let body = c.args.body.now in
     let xs = c.args.stores.now in
     let ys = c.loop-k.stores in

@@ -1,15 +1,12 @@
 -- The words that are kept back are those of the truth values that the statement puts, or the own ones.
 -- These are the answers to the goals of `truths`.
-use Rattle.std.proofs.Common.{◌≡◌, ◌<◌, ◌≤◌, ℕ, pos, true, None, Some, length, get_or, slice_set, option_map, sym, subst, ap, ◌∙◌, arith, rules}
+use Rattle.std.proofs.Common.{◌≡◌, ◌<◌, ◌≤◌, ℕ, pos, true, Some, length, get_or, slice_set, option_map, sym, subst, ap, ◌∙◌, arith, rules}
 use Rattle.std.proofs.lemmas.Option.{get_or_from_slice_get}
 use Rattle.dpl_language.specs.Tree.{NoStmts, Then}
-use Rattle.dpl_language.specs.Expressions.{value_of}
-use Rattle.dpl_memory.specs.Memory.{in_memory}
 use Rattle.dpl_nodes.specs.Typed.{truth_view}
 use Rattle.dpl_nodes.specs.Steps.{truth_stated}
 use Rattle.dpl_readings.specs.Readings.{step_in}
 use Rattle.dpl_strips.specs.Strips.{own_word}
-use Rattle.dpl_strips.specs.Truths.{TruthsHoldInTurns}
 use Rattle.dpl_batches.specs.Stores.{by_now, AreFound}
 use Rattle.dpl_batches.specs.declared.store.Store.{Store}
 use Rattle.dpl_standing.specs.Standing.{Outside}
@@ -20,16 +17,16 @@ use Rattle.dpl_batches.proofs.keep.truths.Goals as goal
 pub returns-clause-found : goal.returns-clause-found
 returns-clause-found g c w =
     let f = c.args.frame.now in
-    let names = c.args.names.now in
-    let row = c.args.row in
+    let names = c.args.lanes.now.names.now in
+    let row = c.args.lanes.now.row in
     let xs = c.args.stores.now in
-    let mask = option_map (λ ms. ms.now) c.args.mask in
+    let mask = option_map (λ ms. ms.now) c.args.lanes.now.mask in
     let i = c.in-Some.i in
     let place = c.in-Some.ensures in
     let x = place.0 in
     let here = get_or_from_slice_get xs i x c.index-stores-i.result place.1 in
     let own = c.own_words.result.now in
-    let source = c.turn_truths.new.strip in
+    let source = c.found_truths.new.strip in
     let strip = c.blend.new.strip in
     let size = c.min.result in
     let few : size ≤ strip.size = search rules in
@@ -37,14 +34,13 @@ returns-clause-found g c w =
     let is : y ≡ record x { is_made = true; words = strip.words } = c.put.ensures ∙ ap (λ (x : Store). record x { is_made = true; words = strip.words }) (get_or_from_slice_get xs i x _ place.1) in
     let owns = subst (λ (x : Store). (k : ℕ) → k < length own → own_word (by_now x) k f.memory ≡ Some (get_or own k (pos 0))) here c.own_words.ensures in
     let e = c.in-Truth.e.now in
-    let values = subst (λ ws. TruthsHoldInTurns names ws (λ u. value_of f.limits in_memory (truth_view e) None u) f.memory source) c.targets-written.ensures c.turn_truths.ensures.values in
     subst (λ t. AreFound f.limits names row f.memory (Then (step_in w t) NoStmts) mask size xs (slice_set xs i y)) (sym c.in-Truth.is)
     (subst (λ target. AreFound f.limits names row f.memory (Then (truth_stated target (truth_view e)) NoStmts) mask size xs (slice_set xs i y)) (sym c.in-Element.is)
     (found-truth f.limits names row f.memory mask xs c.requires.apart i x y place.1 place.3 (ap (λ (x : Store). x.slot) is) (ap (λ (x : Store). x.at) is) (ap (λ (x : Store). x.is_made) is) (ap (λ (x : Store). x.fold) is ∙ place.3)
     size own (λ k below. owns k (omega (arith, below, few, c.blend.ensures.own)))
     c.in-Element.name.now c.in-Element.index.now place.2 place.4
-    e source (c.turn_truths.ensures.row ∙ c.none-strip.ensures.row)
-    (omega (arith, few, c.blend.ensures.size)) values
+    e source c.found_truths.ensures.row
+    (omega (arith, few, c.blend.ensures.size)) c.found_truths.ensures.values
     (λ k below cap. ap (λ (x : Store). get_or x.words k (pos 0)) is ∙ c.blend.ensures.words k (omega (arith, below, few)) cap)))
 
 pub returns-clause-few : goal.returns-clause-few
@@ -52,4 +48,4 @@ returns-clause-few g c = omega (arith, as-many c.args.stores.now (slice_set c.ar
 
 pub returns-clause-apart : goal.returns-clause-apart
 returns-clause-apart g c =
-    apart-alike c.args.names.now c.args.stores.now (slice_set c.args.stores.now c.in-Some.i c.put.new.self) (returns-clause-found g c Outside).alike c.requires.apart
+    apart-alike c.args.lanes.now.names.now c.args.stores.now (slice_set c.args.stores.now c.in-Some.i c.put.new.self) (returns-clause-found g c Outside).alike c.requires.apart

@@ -2,25 +2,27 @@
 -- These are the answers to the goals of `assign_row`.
 use Rattle.std.proofs.Common.{◌≡◌, ◌-◌, suc, ℕ, arith, ap, sym, subst, ◌∙◌}
 use Rattle.dpl_array.specs.Elements.{behind}
-use Rattle.dpl_language.specs.Tree.{IntKind, NoStmts, Then}
+use Rattle.dpl_language.specs.Tree.{NoStmts, Then}
 use Rattle.dpl_memory.specs.Memory.{Memory}
-use Rattle.dpl_nodes.specs.Typed.{int_view}
-use Rattle.dpl_nodes.specs.Steps.{array_leaf, element_set}
 use Rattle.dpl_frame.specs.Frames.{Framed}
 use Rattle.dpl_loop.specs.Runs.{AreDone}
+use Rattle.dpl_readings.specs.Readings.{step_in}
 use Rattle.dpl_elements.specs.Turns.{bound_at, index_turn}
 use Rattle.dpl_elements.proofs.BoundAgain.{bound_at-over}
 use Rattle.dpl_elements.proofs.RowTurns.{none-done, row-done, row-made}
 use Rattle.dpl_batches.proofs.turn.assign_row.Goals as goal
 
 pub returns-then-not-has_room-clause-done : goal.returns-then-not-has_room-clause-done
-returns-then-not-has_room-clause-done g c = none-done _ c.args.row c.args.frame.now.memory
+returns-then-not-has_room-clause-done g c w = none-done _ c.args.row c.args.frame.now.memory
 
 pub returns-in_default-clause-done : goal.returns-in_default-clause-done
-returns-in_default-clause-done g c = none-done _ c.args.row c.args.frame.now.memory
+returns-in_default-clause-done g c w = none-done _ c.args.row c.args.frame.now.memory
+
+pub returns-in_default-element_row-clause-done : goal.returns-in_default-element_row-clause-done
+returns-in_default-element_row-clause-done g c w = none-done _ c.args.row c.args.frame.now.memory
 
 pub returns-then-made-gt0-clause-done : goal.returns-then-made-gt0-clause-done
-returns-then-made-gt0-clause-done g c =
+returns-then-made-gt0-clause-done g c w =
     let f = c.args.frame.now in
     let names = c.args.names.now in
     let first = c.args.row in
@@ -28,25 +30,29 @@ returns-then-made-gt0-clause-done g c =
     let last : ℕ = made - 1 in
     let put = c.put_row-made.ensures.put in
     let some : made ≡ suc last = omega (arith, c.if-made-gt0.true) in
-    let turn = index_turn f.limits names (Then (element_set (array_leaf IntKind c.args.name.now) c.args.index.now c.args.op c.args.sign.now (int_view c.args.e.now)) NoStmts) in
+    let x = c.in-SetElement in
+    let turn = index_turn f.limits names (Then (step_in w c.args.step.now) NoStmts) in
     let memory =
     ap (λ (f : Framed). f.memory) c.bind.ensures
     ∙ ap (λ t. bound_at names t c.put_row-made.new.frame.memory) c.behind.ensures
     ∙ ap (λ (f : Framed). bound_at names (behind last first) f.memory) put.1
     ∙ bound_at-over names (behind last first) f.memory put.0 in
     subst (λ (m : Memory). AreDone turn first made f.memory m) (sym memory)
-    (row-made f.limits names c.args.name.now c.args.index.now c.args.op c.args.sign.now first c.in-Some.at c.turn_ints.new.strip made f.memory put.0 put.2
-    (c.turn_ints.ensures.row ∙ c.none-strip.ensures.row) c.put_row-made.ensures.strip c.put_row-made.ensures.cap c.in-Some.ensures c.args.e.now c.turn_ints.ensures.values last some)
+    (subst (λ t. AreDone (index_turn f.limits names (Then (step_in w t) NoStmts)) first made f.memory (record (bound_at names (behind last first) f.memory) { arrays = put.0 })) (sym x.is)
+    (row-made f.limits names x.name.now x.index.now x.op x.sign.now first c.in-Some.at c.turn_ints.new.strip made f.memory put.0 put.2
+    c.turn_ints.ensures.row c.put_row-made.ensures.strip c.put_row-made.ensures.cap c.in-Some.ensures x.e.now c.turn_ints.ensures.values last some))
 
 pub returns-else-made-gt0-clause-done : goal.returns-else-made-gt0-clause-done
-returns-else-made-gt0-clause-done g c =
+returns-else-made-gt0-clause-done g c w =
     let f = c.args.frame.now in
     let names = c.args.names.now in
     let first = c.args.row in
     let made = c.put_row-made.result in
     let put = c.put_row-made.ensures.put in
     let none : made ≡ 0 = omega (arith, c.if-made-gt0.false) in
-    let turn = index_turn f.limits names (Then (element_set (array_leaf IntKind c.args.name.now) c.args.index.now c.args.op c.args.sign.now (int_view c.args.e.now)) NoStmts) in
+    let x = c.in-SetElement in
+    let turn = index_turn f.limits names (Then (step_in w c.args.step.now) NoStmts) in
     subst (λ (m : Memory). AreDone turn first made f.memory m) (sym (ap (λ (f : Framed). f.memory) put.1))
-    (row-done f.limits names c.args.name.now c.args.index.now c.args.op c.args.sign.now first c.in-Some.at c.turn_ints.new.strip made f.memory put.0 put.2
-    (c.turn_ints.ensures.row ∙ c.none-strip.ensures.row) c.put_row-made.ensures.strip c.put_row-made.ensures.cap c.in-Some.ensures c.args.e.now c.turn_ints.ensures.values none)
+    (subst (λ t. AreDone (index_turn f.limits names (Then (step_in w t) NoStmts)) first made f.memory (record f.memory { arrays = put.0 })) (sym x.is)
+    (row-done f.limits names x.name.now x.index.now x.op x.sign.now first c.in-Some.at c.turn_ints.new.strip made f.memory put.0 put.2
+    c.turn_ints.ensures.row c.put_row-made.ensures.strip c.put_row-made.ensures.cap c.in-Some.ensures x.e.now c.turn_ints.ensures.values none))

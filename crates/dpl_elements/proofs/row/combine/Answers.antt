@@ -1,6 +1,6 @@
 -- One word more is what the operator makes of the old one and of the int.
 -- These are the answers to the goals of `combine`.
-use Rattle.std.proofs.Common.{◌≡◌, ◌<◌, pos, None, get_or, length, length-set, sym, ap, ◌∙◌, arith, FitsSigned, w64, rules}
+use Rattle.std.proofs.Common.{◌≡◌, pos, None, get_or, length-set, sym, ap, ◌∙◌, arith, FitsSigned, w64, rules}
 use Rattle.std.proofs.lemmas.Int.{to_z-of_z}
 use Rattle.std.proofs.lemmas.List.{get_or-set_other}
 use Rattle.dpl_language.specs.Values.{Int}

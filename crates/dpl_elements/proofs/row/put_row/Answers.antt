@@ -1,6 +1,6 @@
 -- Words put side by side are the changes of their elements.
 -- These are the answers to the goals of `put_row`.
-use Rattle.std.proofs.Common.{◌≡◌, ◌≤◌, pos, take, length, get_or, ap, ◌∙◌, Some, arith, rules}
+use Rattle.std.proofs.Common.{◌≤◌, pos, take, length, get_or, ap, ◌∙◌, Some, arith, rules}
 use Rattle.std.proofs.lemmas.List.{get_or-take}
 use Rattle.std.proofs.lemmas.Option.{slice_get-get_or}
 use Rattle.dpl_strips.proofs.Strips.{take-few}

@@ -1,6 +1,6 @@
 use Rattle.std.proofs.Common.{◌≡◌}
 use Rattle.dpl_batches.specs.Folded.{folded_words}
-use Rattle.dpl_batches.proofs.fold.folded.Given as goal
+use Rattle.dpl_batches.proofs.fold.folded_by.Given as goal
 
 -- the ints before the loop's are folded onto the word
 abbrev pub invariant-loop-k : goal.invariant-loop-k

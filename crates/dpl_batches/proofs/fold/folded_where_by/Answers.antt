@@ -1,11 +1,11 @@
 -- One int more counts where the mask says so.
--- These are the answers to the goals of `folded_where`.
+-- These are the answers to the goals of `folded_where_by`.
 use Rattle.std.proofs.Common.{◌≡◌, suc, ◌+◌, pos, if◌then◌else◌, get_or, sym, ap, ◌∙◌, arith, FitsSigned, w64, rules}
 use Rattle.std.specs.Ordering.{int_eq}
 use mir.Val.{to_z}
 use Rattle.std.proofs.lemmas.Int.{to_z-of_z}
 use Rattle.dpl_batches.specs.Folded.{folded_one_where, folded_where}
-use Rattle.dpl_batches.proofs.fold.folded_where.Goals as goal
+use Rattle.dpl_batches.proofs.fold.folded_where_by.Goals as goal
 
 pub loop-k-preserved : goal.loop-k-preserved
 loop-k-preserved c =
