@@ -7,12 +7,14 @@ import re
 import sys
 
 HOUSE = os.path.dirname(os.path.dirname(os.path.realpath(__file__)))
-# What the contracts of run_text, Left, dump and Config::new name, by file.
+# What the contracts of run_text, check, run_checked, Left, dump and Config::new name, by file; but for the clause `allowed` of check, which follows from
+# its clause `unrefused` by a law of the rules (`sound_admitted`).
 ROOTS = {
     "dpl_run/Headline": ["IsRead", "Says"],
     "dpl_run/Settings": ["Settings", "limits_of", "layout_of", "AreLocales", "IsCount", "IsGrid2", "IsGrid3"],
     "dpl_run/Writers": ["fails", "Partly"],
     "dpl_run/Leaving": ["variable_view"],
+    "dpl_run/Programs": ["CheckedProgram", "AreSpelled", "Runs"],
     "dpl_loop/Entries": ["MayRefuseSome"],
     "dpl_says/Dump": ["dumped"],
 }

@@ -87,7 +87,7 @@ plan-deals t sets limits slots scopes steps spelt untasked unrefused nodes runs 
     let plan : IsPlan t slots scopes steps = planned t slots scopes steps runs nodes count behind in
     program-deals t sets limits slots scopes steps spelt untasked (walk-unbroken t sound)
     (plan-resolves t slots scopes runs count behind (start_by t sets slots scopes) refl (alike t sets slots scopes steps plan (sets-fit t sets unrefused))) nodes
-    (plan-stands t sets steps untasked unrefused nodes)
+    (plan-stands t sets slots scopes steps plan untasked unrefused)
 
 -- ---- the foralls that are counted: those on record, which are those that the run by names enters
 pair-map : {A B C : Type 0} (R : A → C → Type 0) (Q : B → C → Type 0) (f : A → B) → ((x : A) (z : C) → R x z → Q (f x) z)

@@ -10,6 +10,7 @@ pub mod Standing
 pub mod Ends
 pub mod Meaning
 pub mod Stages
+pub mod Elsewhere
 pub mod Runnable
 pub mod Declared
 -- By which array's map turns are dealt out is what the rules say.

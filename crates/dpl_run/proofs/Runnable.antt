@@ -16,7 +16,7 @@ use Rattle.dpl_rules.specs.Doings.{stmts_deeds}
 use Rattle.dpl_rules.specs.Bodies.{inner_reductions}
 use Rattle.dpl_rules.specs.Sound.{IsSound, sets_fit, behind_all, refusal_by}
 use Rattle.dpl_rules.proofs.Admission.{first_empty}
-use Rattle.dpl_rules.proofs.Soundness.{sound_exactly}
+use Rattle.dpl_rules.proofs.Soundness.{sound_exactly, sound_admitted}
 use Rattle.dpl_nodes.specs.Spots.{IsNear}
 use Rattle.dpl_runnable.specs.Runnable.{AreRunnableTops}
 use Rattle.dpl_runnable.proofs.Spelled.{Spells-written}
@@ -24,6 +24,7 @@ use Rattle.dpl_runnable.proofs.Statements.{program-runnable}
 use Rattle.dpl_agreement.specs.Untasked.{UntaskedStmts}
 use Rattle.dpl_says.proofs.Untasked.{stmts-untasked, Spells-untasked}
 use Rattle.dpl_run.specs.Headline.{IsProgram}
+use Rattle.dpl_run.specs.Programs.{IsAllowed}
 use Rattle.dpl_run.proofs.Stages.{program-open, program-unrefused}
 
 near : (p : Place) → IsWithin (suc longest_text) p → IsNear p
@@ -52,7 +53,11 @@ module _ (text : List ℕ) (sets : List (List ℕ)) (t : ProgramTree Text) (is :
   pub program-untasked : UntaskedStmts t.stmts
   program-untasked = stmts-untasked IsNear t.stmts program-spelt
 
+  program-sound : IsSound t
+  program-sound = (sound_exactly t).1 (unbroken (first_breach t) (sets_fit (behind_all top t.stmts) [] sets) (program-unrefused text sets t is))
+
   pub program-runs : AreRunnableTops top t.stmts
-  program-runs =
-      let sound = (sound_exactly t).1 (unbroken (first_breach t) (sets_fit (behind_all top t.stmts) [] sets) (program-unrefused text sets t is)) in
-      program-runnable t.stmts program-spelt program-untasked (Spells-written 64 is.tokens t is.spells) (walk-unbroken t sound)
+  program-runs = program-runnable t.stmts program-spelt program-untasked (Spells-written 64 is.tokens t is.spells) (walk-unbroken t program-sound)
+
+  pub program-allowed : IsAllowed t
+  program-allowed = record { sound = program-sound; admitted = sound_admitted t program-sound }

@@ -1,5 +1,6 @@
--- What a text comes to, which settings its meaning knows, what it leaves, and how a refused run is told.
+-- What a text comes to, what a checked program does, which settings a meaning knows, what it leaves, and how a refused run is told.
 pub mod Headline
+pub mod Programs
 pub mod Settings
 pub mod Names
 pub mod Leaving
@@ -8,6 +9,7 @@ pub mod Refusals
 pub mod Writers
 pub mod Runs
 pub mod Plans
+pub mod Elaborated
 pub mod Refusing
 -- Which foralls a run enters, and has on record where it keeps one; and by which map their turns are dealt out.
 pub mod Entered

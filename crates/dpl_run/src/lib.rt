@@ -1,9 +1,12 @@
 // The run of a text, as calls: what is written, and the outcome, are those of the language's definition.
-// Read `run_text`, whose contract is the theorem, and then `Config`, `Out` and `Outcome`, which it speaks of.
+// Read `run_text`, whose contract is the theorem, and then `Config`, `Out` and `Outcome`, which it speaks of. It is made of `check`, which takes a
+// tree or refuses it, and `run_checked`, whose contract is the theorem of a checked program.
 // That what `run` of dpl_program gives, through the plan, is what the program means is a page of proof (proofs/Meaning.antt): desugaring,
 // the simulation of names by a memory, and what the planner promises, one after another.
 #![tactic(auto)]
 
+mod checked;
+mod checking;
 mod collect;
 mod config;
 mod frame;
@@ -16,6 +19,8 @@ mod run;
 mod text;
 mod writer;
 
+pub use checked::Checked;
+pub use checking::{CheckStop, check};
 pub use config::{Config, ConfigFault, MOST_TURNS};
 pub use dpl_contents::ArrayWords;
 pub use dpl_frame::{DomainWord, Fault, FaultCode, RangeWord, Turn};
@@ -26,5 +31,6 @@ pub use left::{Left, Value, Variable};
 pub use listing::dump;
 pub use outcome::Outcome;
 pub use refused::Refused;
+pub use run::run_checked;
 pub use text::run_text;
 pub use writer::{Out, OutFault, Plain, write_all};

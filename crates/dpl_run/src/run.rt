@@ -1,8 +1,8 @@
-// The run of a program, from its plan to what it writes.
+// The run of a program that was checked, from its steps to what it writes.
 // Its output is held until it has ended, and then written at once.
 
-ghost use Rattle.std.specs.Prelude.{◌≡◌, IfOk, IfErr, OnOk, OnErr, true, false};
-ghost use Rattle.std.specs.Io.KnownBytes.{Appends};
+ghost use Rattle.std.specs.Prelude.{◌≡◌, ℕ, List, IfOk, IfErr, OnOk, OnErr, true, false};
+ghost use Rattle.std.specs.Io.KnownBytes.{Appends, Keeps};
 ghost use Rattle.dpl_language.specs.Outcome.{no_deeds};
 ghost use Rattle.dpl_language.specs.Statements.{exec_all};
 ghost use Rattle.dpl_tree.specs.Statements.{stmts_of};
@@ -12,11 +12,18 @@ ghost use Rattle.dpl_loop.specs.Entries.{MayRefuseSome};
 ghost use Rattle.dpl_readings.specs.Readings.{steps_in};
 ghost use Rattle.dpl_typer.specs.Sights.{AreKnownScopes};
 ghost use Rattle.dpl_run.specs.Leaving.{AreLeft};
+ghost use Rattle.dpl_run.specs.Elaborated.{IsChecked, program_of};
+ghost use Rattle.dpl_run.specs.Programs.{Runs};
 ghost use Rattle.dpl_run.specs.Refusing.{IsUnwritten};
 ghost use Rattle.dpl_run.specs.Runs.{RanTo};
+ghost use Rattle.dpl_run.specs.Settings.{limits_of};
 ghost use Rattle.dpl_run.specs.Writers.{Partly};
+ghost use Rattle.dpl_run.specs.declared.outcome.Outcome.{Outcome};
 
+use crate::checked::Checked;
 use crate::collect::collect;
+use crate::config::Config;
+use crate::frame::first_frame;
 use crate::lines::tell_fault;
 use crate::outcome::Outcome;
 use crate::refused::Refused;
@@ -38,12 +45,9 @@ pub(crate) struct Ended {
     pub(crate) text: Vec<u8>,
 }
 
-/// Runs the steps of a program to their end, and writes nothing. The statements are those of the program, and the scopes
-/// have the names that they leave.
-///
-/// # Errors
-/// Out of memory; a worker was not started; or the gate refused an entry.
-pub(crate) fn run<'t, R: Threads + Wait + Sync, G: Gate + Sync>(
+// Runs the steps of a program to their end, and writes nothing. The statements are those of the program, and the scopes have the names
+// that they leave.
+fn run<'t, R: Threads + Wait + Sync, G: Gate + Sync>(
     rt: &R,
     alloc: Global,
     steps: &[Step<'t>],
@@ -90,4 +94,71 @@ pub(crate) fn deliver<W: Out>(ended: Ended, out: &mut W) -> Result<Outcome, Refu
 {
     write_all(out, &ended.text)?;
     Ok(ended.outcome)
+}
+
+/// Runs a program to its end, and writes nothing.
+///
+/// # Errors
+/// Out of memory; a worker was not started; or the gate refused an entry.
+pub(crate) fn run_to_end<R: Threads + Wait + Sync, G: Gate + Sync>(
+    rt: &R,
+    alloc: Global,
+    checked: &Checked<'_, '_>,
+    config: &Config,
+    gate: &G,
+) -> Result<Ended, Refused>
+    requires { IsChecked checked.now }
+    ensures runs { IfOk result (λ ended. Runs (program_of checked.now) (limits_of config.now) ended.outcome ended.text.items) }
+    ensures unwritten { IfErr result (IsUnwritten (MayRefuseSome (G.may_refuse gate.now))) }
+{
+    let frame = first_frame(alloc, checked.slots, &checked.words, config)?;
+    run(
+        rt,
+        alloc,
+        checked.steps,
+        frame,
+        &checked.scopes,
+        checked.program.stmts,
+        gate,
+    )
+}
+
+/// Runs a program that was checked: what is written, and the outcome, are those of the language's definition, in which a forall is a
+/// plain loop. Of the settings the program sees the budget alone. It can be run as often as is wanted.
+///
+/// `rt`, `gate` and `out` are as for [`run_text`](crate::run_text).
+///
+/// # Errors
+/// Out of memory, a worker was not started, or the gate refused an entry, and nothing was written; or the writer failed, and it holds the first bytes of
+/// what the program writes.
+pub fn run_checked<R: Threads + Wait + Sync, G: Gate + Sync, W: Out>(
+    rt: &R,
+    alloc: Global,
+    checked: &Checked<'_, '_>,
+    config: &Config,
+    gate: &G,
+    out: &mut W,
+) -> Result<Outcome, Refused>
+    requires checked { IsChecked checked.now }
+    requires unfailed { W.has_failed out.old ≡ false }
+    // The program comes to the outcome and to what is written, and to no others, whatever histories there are and on every number of locales.
+    ensures written { IfOk result (λ outcome. (said : List ℕ) × Appends (W.contents out.old) (W.contents out.new) said
+        × Runs (program_of checked.now) (limits_of config.now) outcome said) }
+    ensures unfailed { OnOk result (W.has_failed out.new ≡ false) }
+    // Without memory nothing was written.
+    ensures memory { result ≡ Err Refused.Memory
+        → Keeps (W.contents out.old) (W.contents out.new) × (W.has_failed out.new ≡ false) }
+    // Nothing was written where a worker was not started.
+    ensures thread { result ≡ Err Refused.Thread
+        → Keeps (W.contents out.old) (W.contents out.new) × (W.has_failed out.new ≡ false) }
+    // The gate refused an entry only where it may. Nothing was written.
+    ensures gate { result ≡ Err Refused.Gate → MayRefuseSome (G.may_refuse gate.now)
+        × Keeps (W.contents out.old) (W.contents out.new) × (W.has_failed out.new ≡ false) }
+    // A writer that failed holds the first bytes of what the program writes.
+    ensures writer { result ≡ Err Refused.Writer → (W.has_failed out.new ≡ true)
+        × ((outcome : Outcome) × (said : List ℕ) × Runs (program_of checked.now) (limits_of config.now) outcome said
+        × Partly (W.contents out.old) (W.contents out.new) said) }
+{
+    let ended = run_to_end(rt, alloc, checked, config, gate)?;
+    deliver(ended, out)
 }

@@ -1,52 +1,35 @@
-// The run of a text, from bytes to bytes.
+// The run of a text, from bytes to bytes: it is lexed, parsed and checked, and the checked program is run.
 // The theorem of the whole stands on `run_text`.
 
-ghost use Rattle.std.specs.Prelude.{◌≡◌, ℕ, List, map, IfOk, IfErr, OnOk, None, false, true};
+ghost use Rattle.std.specs.Prelude.{◌≡◌, ℕ, List, map, None, Some, IfOk, IfErr, IsErrOf, OnOk, Err, false, true};
 ghost use Rattle.std.specs.Io.KnownBytes.{Appends, Keeps};
 ghost use Rattle.dpl_history.specs.declared.history.Event.{Event};
 ghost use Rattle.dpl_syntax.specs.declared.refusal.Refusal.{Refusal};
-ghost use Rattle.dpl_tree.specs.Statements.{stmts_of, program_view};
-ghost use Rattle.dpl_language.specs.Outcome.{no_deeds};
-ghost use Rattle.dpl_language.specs.Statements.{exec_all};
-ghost use Rattle.dpl_rules.specs.Breaches.{top};
-ghost use Rattle.dpl_memory.specs.Memory.{in_memory};
-ghost use Rattle.dpl_memory.specs.Resolved.{first_memory};
-ghost use Rattle.dpl_standing.specs.Standing.{Outside};
-ghost use Rattle.dpl_loop.specs.Entries.{MayRefuseSome};
-ghost use Rattle.dpl_readings.specs.Readings.{steps_in};
-ghost use Rattle.dpl_typer.specs.Sights.{AreKnownScopes};
-ghost use Rattle.dpl_run.specs.Leaving.{AreLeft};
-ghost use Rattle.dpl_run.specs.Plans.{start_of};
-ghost use Rattle.dpl_run.specs.Runs.{RanTo};
-ghost use Rattle.dpl_runnable.specs.Runnable.{AreRunnableTops};
+ghost use Rattle.dpl_syntax.specs.declared.stop.Stop.TheVariants as stage;
 ghost use Rattle.dpl_grammar.specs.Classes.{task_words};
-ghost use Rattle.dpl_agreement.specs.Untasked.{UntaskedStmts};
-ghost use Rattle.dpl_rules.specs.Sound.{refusal};
-ghost use Rattle.dpl_says.specs.Says.{refusal_of, Means};
-ghost use Rattle.dpl_run.specs.Headline.{ending, ComesTo, Says, IsRead};
+ghost use Rattle.dpl_tree.specs.Statements.{program_view};
+ghost use Rattle.dpl_says.specs.Says.{refusal_of};
+ghost use Rattle.dpl_loop.specs.Entries.{MayRefuseSome};
+ghost use Rattle.dpl_run.specs.Programs.{AreSpelled, Runs};
+ghost use Rattle.dpl_run.specs.Headline.{ComesTo, Says, IsRead};
 ghost use Rattle.dpl_run.specs.Refusing.{IsRejection, IsCause, IsUnwritten};
 ghost use Rattle.dpl_run.specs.Settings.{limits_of};
 ghost use Rattle.dpl_run.specs.declared.outcome.Outcome.{Outcome};
 ghost use Rattle.dpl_run.specs.Writers.{Partly};
 
+use crate::checking::check;
 use crate::config::Config;
-use crate::frame::first_frame;
 use crate::lines::tell_refusal;
 use crate::outcome::Outcome;
 use crate::refused::Refused;
-use crate::run::{Ended, deliver, run};
+use crate::run::{Ended, deliver, run_to_end};
 use crate::writer::Out;
 use bumpalo::Bump;
-use dpl_checker::refusal;
-use dpl_closed::closed;
-use dpl_given::given;
 use dpl_lexer::lex;
 use dpl_loop::Gate;
-use dpl_nodes::NoNode;
 use dpl_parser::parse;
-use dpl_planner::{Planned, plan};
-use dpl_syntax::{Code, Refusal, Stop, Token};
-use dpl_tree::{Arena, Program, Stmt};
+use dpl_syntax::{Refusal, Stop, Token};
+use dpl_tree::{Arena, Program};
 use std::alloc::{AllocError, Global};
 use std::sync::Wait;
 use std::thread::Threads;
@@ -63,71 +46,26 @@ fn reject(alloc: Global, refusal: Refusal) -> Result<Ended, AllocError>
     })
 }
 
-// For what tokens and their tree are refused: `P1` at the first that needs what doesn't run, and else what the check says.
-fn tree_refusal<'t>(
+// The run of a tree that tokens spell, or what it is refused for.
+fn run_spelled<'t, R: Threads + Wait + Sync, G: Gate + Sync>(
+    rt: &R,
     arena: Arena<'t>,
     tokens: &[Token<'t>],
     program: &Program<'t>,
     sets: &[&str],
-) -> Result<Option<Refusal>, AllocError>
-    ensures { IfOk result (λ r. r ≡ refusal_of task_words (map (λ set. set.now) sets.now) tokens.now (program_view program.now)) }
-{
-    match closed(tokens) {
-        Some(at) => Ok(Some(Refusal {
-            code: Code::Unexpected,
-            place: Some(at),
-        })),
-        None => refusal(arena, program, sets),
-    }
-}
-
-// The run of a plan, in a frame that has what the sets give.
-fn run_planned<'t, R: Threads + Wait + Sync, G: Gate + Sync>(
-    rt: &R,
-    arena: Arena<'t>,
-    planned: Planned<'_, 't>,
-    stmts: &[Stmt<'_>],
-    sets: &[&str],
     config: &Config,
     gate: &G,
-) -> Result<Ended, Refused>
-    ensures ends { IfOk result (λ ended. AreKnownScopes planned.entry.scopes → AreLeft planned.entry.scopes
-        → RanTo planned.entry.scopes (stmts_of stmts.now) (exec_all (limits_of config.now) in_memory (steps_in Outside planned.entry.steps.now)
-        (first_memory (start_of planned.entry.slots planned.entry.scopes (map (λ set. set.now) sets.now))) no_deeds) ended.outcome ended.text.items) }
-    ensures unwritten { IfErr result (IsUnwritten (MayRefuseSome (G.may_refuse gate.now))) }
+) -> Result<Result<Ended, Refused>, Stop>
+    requires spelled { AreSpelled tokens.now (program_view program.now) }
+    ensures runs { IfOk result (λ ran. IfOk ran (λ ended.
+        Runs (record { tree = program_view program.now; sets = map (λ set. set.now) sets.now }) (limits_of config.now) ended.outcome ended.text.items)) }
+    ensures unwritten { IfOk result (λ ran. IfErr ran (IsUnwritten (MayRefuseSome (G.may_refuse gate.now)))) }
+    ensures unrefused { OnOk result (refusal_of task_words (map (λ set. set.now) sets.now) tokens.now (program_view program.now) ≡ None) }
+    ensures refused { (r : Refusal) → IsErrOf result (stage.Refused r)
+        → refusal_of task_words (map (λ set. set.now) sets.now) tokens.now (program_view program.now) ≡ Some r }
 {
-    let alloc = arena.alloc();
-    let Planned {
-        steps,
-        slots,
-        scopes,
-    } = planned;
-    let words = given(alloc, &scopes, sets)?;
-    let frame = first_frame(alloc, slots, &words, config)?;
-    run(rt, alloc, steps, frame, &scopes, stmts, gate)
-}
-
-// The run of a program that has no refusal: such a program runs, so that the planner doesn't refuse it.
-fn run_program<'t, R: Threads + Wait + Sync, G: Gate + Sync>(
-    rt: &R,
-    arena: Arena<'t>,
-    program: &Program<'t>,
-    sets: &[&str],
-    config: &Config,
-    gate: &G,
-) -> Result<Ended, Refused>
-    requires untasked { UntaskedStmts (stmts_of program.now.stmts.now) }
-    requires unrefused { refusal (program_view program.now) (map (λ set. set.now) sets.now) ≡ None }
-    requires runnable { AreRunnableTops top (stmts_of program.now.stmts.now) }
-    ensures means { IfOk result (λ ended. (histories : List (List Event))
-        → Means (program_view program.now) (map (λ set. set.now) sets.now) (limits_of config.now) histories (ending ended.outcome) ended.text.items) }
-    ensures unwritten { IfErr result (IsUnwritten (MayRefuseSome (G.may_refuse gate.now))) }
-{
-    match plan(arena, program) {
-        Ok(planned) => run_planned(rt, arena, planned, program.stmts, sets, config, gate),
-        Err(NoNode::Memory) => Err(Refused::Memory),
-        Err(NoNode::IllTyped) => unreachable!(),
-    }
+    let checked = check(arena, tokens, program, sets)?;
+    Ok(run_to_end(rt, arena.alloc(), &checked, config, gate))
 }
 
 // The run of a text's program, or the text's refusal. The tokens are dropped at the end, since the tree points into the text
@@ -150,10 +88,7 @@ fn stages<R: Threads + Wait + Sync, G: Gate + Sync>(
     let arena = Arena::new(&nodes, alloc);
     let slice = tokens.as_slice();
     let program = parse(arena, slice)?;
-    match tree_refusal(arena, slice, &program, sets)? {
-        Some(refusal) => Err(Stop::Refused(refusal)),
-        None => Ok(run_program(rt, arena, &program, sets, config, gate)),
-    }
+    run_spelled(rt, arena, slice, &program, sets, config, gate)
 }
 
 // What a text comes to: the run of its program, or its refusal.

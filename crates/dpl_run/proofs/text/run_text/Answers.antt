@@ -6,14 +6,19 @@ use Rattle.dpl_run.specs.Settings.{limits_of}
 use Rattle.dpl_grammar.specs.Classes.{task_words}
 use Rattle.dpl_says.proofs.OneSaying.{is_read}
 use Rattle.dpl_says.proofs.Anywhere.{says}
-use Rattle.dpl_run.specs.Headline.{ending}
+use Rattle.dpl_run.specs.Headline.{ending, Says}
 use Rattle.dpl_run.proofs.Stages.{delivered}
 use Rattle.dpl_run.proofs.text.run_text.Goals as goal
 
 pub returns-clause-written : goal.returns-clause-written
 returns-clause-written g c =
-    delivered c.args.text.now (map (λ set. set.now) c.args.sets.now) (limits_of c.args.config.now) c.deliver.result c.in_ok-ended.ended.outcome c.in_ok-ended.ended.text.items
-    (g.W.Out.contents c.args.out.now) (g.W.Out.contents c.deliver.new.out) c.in_ok-ended.ensures.comes c.deliver.ensures.outcome c.deliver.ensures.written
+    let text = c.args.text.now in
+    let sets = map (λ set. set.now) c.args.sets.now in
+    let limits = limits_of c.args.config.now in
+    let o = c.in_ok-ended.ended.outcome in
+    let said = c.in_ok-ended.ended.text.items in
+    delivered (Says text sets limits) c.deliver.result o said (g.W.Out.contents c.args.out.now) (g.W.Out.contents c.deliver.new.out)
+    (says task_words text sets limits (ending o) said c.in_ok-ended.ensures.comes) c.deliver.ensures.outcome c.deliver.ensures.written
 
 pub returns-clause-read : goal.returns-clause-read
 returns-clause-read g c = is_read task_words c.args.text.now (map (λ set. set.now) c.args.sets.now)

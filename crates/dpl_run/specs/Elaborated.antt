@@ -1,0 +1,31 @@
+-- A program that was checked: a text spells it, it has no refusal, and it is elaborated to steps over slots, with the scopes that it leaves and the
+-- words that sets give to its slots.
+use Rattle.std.specs.Prelude.{◌≡◌, ℕ, ℤ, List, map}
+use Rattle.dpl_tree.specs.Statements.{program_view}
+use Rattle.dpl_language.specs.Tree.{ProgramTree}
+use Rattle.dpl_language.specs.Names.{Text}
+use Rattle.dpl_rules.specs.Sights.{Scopes}
+use Rattle.dpl_given.specs.Words.{words_in}
+use Rattle.dpl_nodes.specs.declared.step.Step.{Step}
+use Rattle.dpl_run.specs.Headline.{IsProgram}
+use Rattle.dpl_run.specs.Plans.{IsPlan}
+use Rattle.dpl_run.specs.Programs.{CheckedProgram, IsAllowed}
+use Rattle.dpl_run.specs.declared.checked.Checked.{Checked}
+
+-- the program of some text, which has no refusal
+abbrev pub IsUnrefused : ProgramTree Text → List (List ℕ) → Type 0
+IsUnrefused t sets = (text : List ℕ) × IsProgram text sets t
+
+pub record IsElaborated (t : ProgramTree Text) (sets : List (List ℕ)) (slots : ℕ) (scopes : Scopes) (steps : List Step) (words : List (ℕ × ℤ)) : Type 0 where
+  pub unrefused : IsUnrefused t sets
+  pub allowed : IsAllowed t
+  pub plan : IsPlan t slots scopes steps
+  pub given : words ≡ words_in scopes sets
+
+-- the program that was checked
+abbrev pub program_of : Checked → CheckedProgram
+program_of c = record { tree = program_view c.program.value; sets = map (λ set. set.now) c.sets.now }
+
+-- and that it was
+abbrev pub IsChecked : Checked → Type 0
+IsChecked c = IsElaborated (program_of c).tree (program_of c).sets c.slots c.scopes c.steps.now c.words.items
