@@ -23,7 +23,7 @@ for text in "$top"/examples/*.chpl; do
     echo "$(basename "$text"): $times times by each of three maps"
 done
 
-# The rows that say themselves on how many locales they run are left out.
+# The rows that say themselves on how many locales they run are left out. Behind each answer stands the layout of 64 locales.
 python3 - "$top/crates/dpl_rows" "$work" <<'ROWS'
 import sys
 rows, work = sys.argv[1:]
@@ -32,7 +32,7 @@ told = open(f"{rows}/stdout").read().split("==\n")[:-1]
 assert len(told) == len(texts)
 kept = [k for k, text in enumerate(texts) if not any(line.startswith("@ locales ") for line in text.split("\n"))]
 open(f"{work}/stdin", "w").write("".join(f"@ locales 64\n{texts[k]}\n==\n" for k in kept))
-open(f"{work}/rows", "w").write("".join(f"{told[k]}==\n" for k in kept) + f"{len(kept)} rows\n")
+open(f"{work}/rows", "w").write("".join(f"{told[k]}layout 6\n==\n" for k in kept) + f"{len(kept)} rows\n")
 ROWS
 k=0
 while [ "$k" -lt "$times" ]; do

@@ -111,7 +111,8 @@ fn is_asked(row: &Row<'_>, layout: usize) -> bool {
     }
 }
 
-// Tells what a row writes by every setting: what it writes on one locale, and what is something else by one of the others.
+// Tells what a row writes by every setting: what it writes on one locale, and what is something else by one of the others. Of a row that says on
+// how many locales it runs, the layouts are told.
 fn tell_row<R: Threads + Wait + Sync>(
     rt: &R,
     alloc: Global,
@@ -121,8 +122,13 @@ fn tell_row<R: Threads + Wait + Sync>(
     let first = answer(rt, alloc, row, 0, (Maps::AsIs, false))?;
     told.extend_from_slice(&first)?;
     for layout in 0..LAYOUTS.len() {
-        if is_asked(row, layout) {
-            tell_layout(rt, alloc, row, layout, &first, told)?;
+        if !is_asked(row, layout) {
+            continue;
+        }
+        tell_layout(rt, alloc, row, layout, &first, told)?;
+        if row.locales > 0 {
+            let line = format!(in alloc; "layout {layout}\n")?;
+            told.extend_from_slice(line.as_bytes())?;
         }
     }
     told.extend_from_slice(b"==\n")
