@@ -31,20 +31,23 @@ fn twice<R: Abort + Threads + Wait + Sync>(rt: &R, alloc: Global, text: &[u8]) -
     };
     let mut out = Plain::new(Vec::new(alloc));
     let config = one_locale(rt);
-    let Ok(Outcome::Done(_)) = run_checked(rt, alloc, &checked, &config, &OpenGate, &mut out)
-    else {
+    let Ok(Outcome::Done(_)) = run_checked(rt, alloc, &checked, &config, &OpenGate, &mut out) else {
         panic!(rt; "one locale runs it to its end")
     };
     let config = four_locales(rt, Maps::Cyclic);
-    let Ok(Outcome::Done(_)) = run_checked(rt, alloc, &checked, &config, &OpenGate, &mut out)
-    else {
+    let Ok(Outcome::Done(_)) = run_checked(rt, alloc, &checked, &config, &OpenGate, &mut out) else {
         panic!(rt; "four locales run it to its end")
     };
     out.writer
 }
 
 // The refusal's line of a tree that is spelled, or `taken`.
-fn verdict(rt: &impl Abort, alloc: Global, text: &str, sets: &[&str]) -> String {
+fn verdict<'r, 't, 's, R: Abort>(
+    rt: &'r R,
+    alloc: Global,
+    text: &'t str,
+    sets: &'s [&'s str],
+) -> String {
     let Ok(tokens) = lex(alloc, text.as_bytes()) else {
         panic!(rt; "the text has tokens")
     };
