@@ -12,12 +12,12 @@ ghost use Rattle.dpl_elements.specs.Turns.{HasRoom, IsApart, index_turn};
 
 use crate::fold::{fold_of, folded};
 use crate::variables::bind;
+use dpl_arithmetic::index::{coordinate, plane, space};
 use dpl_domain::Index;
 use dpl_elements::put_row;
 use dpl_frame::{Arrays, Frame};
 use dpl_loop::{Row, STRIP, Strip};
 use dpl_nodes::{IndexExpr, Names, Step, TruthTarget};
-use dpl_strips::index::{coordinate, plane, space};
 use dpl_strips::{Target, turn_ints, turn_row, turn_truths};
 use dpl_tree::Assign;
 

@@ -20,12 +20,12 @@ ghost use Rattle.dpl_loop.specs.Runs.{RunsTo, RunEnds};
 ghost use Rattle.dpl_loop.specs.Values.{Gives};
 ghost use Rattle.dpl_elements.specs.Changes.{signed, if_there, put_memory};
 
+use dpl_arithmetic::number::{difference, product, quotient, remainder, sum};
 use dpl_domain::Index;
 use dpl_frame::{Alarm, Arrays, FaultCode, Frame, Trap, Turn};
 use dpl_loop::RunStop;
 use dpl_loop::stop::told as ended;
 use dpl_nodes::{ArrayName, BoolExpr, IndexExpr, IntExpr, Spot};
-use dpl_strips::number::{difference, product, quotient, remainder, sum};
 use dpl_tree::Assign;
 use dpl_values::{Team, coordinate_value, index_value, int_value, truth_value};
 

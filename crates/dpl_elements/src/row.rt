@@ -11,10 +11,10 @@ ghost use Rattle.dpl_elements.specs.Changes.{signed};
 ghost use Rattle.dpl_elements.specs.Rows.{ArePut};
 
 use crate::element::{assigned, divides, replaces};
+use dpl_arithmetic::index::{coordinate, plane, space};
 use dpl_frame::{Arrays, Frame};
 use dpl_loop::{Row, STRIP, Strip};
 use dpl_nodes::{ArrayName, Spot};
-use dpl_strips::index::{coordinate, plane, space};
 use dpl_tree::Assign;
 
 /// What an operator makes of old words and of the ints of a strip, in the strip, as many as there are old words; nothing of an operator that

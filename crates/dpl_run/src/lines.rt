@@ -7,9 +7,9 @@ ghost use Rattle.dpl_language.specs.Program.{fault_code_text, fault_text, line_e
 ghost use Rattle.dpl_language.specs.Values.{InNone, InTurn};
 ghost use Rattle.dpl_frame.specs.Faults.{fault_view, turn_view};
 
+use dpl_arithmetic::index::{coordinate, plane, space};
 use dpl_domain::Index;
 use dpl_frame::{Fault, FaultCode, Turn};
-use dpl_strips::index::{coordinate, plane, space};
 use dpl_syntax::Refusal;
 use std::alloc::{AllocError, Global};
 

@@ -13,11 +13,11 @@ ghost use Rattle.dpl_loop.specs.Values.{Gives};
 ghost use Rattle.dpl_elements.specs.Changes.{declared_memory, given_memory, assigned_memory, int_given, int_put, int_memory, truth_memory, updated_by, memory_after};
 
 use crate::reduce::{reduced_int, reduced_truth};
+use dpl_arithmetic::number::{difference, product, quotient, remainder, sum};
 use dpl_frame::{Arrays, FaultCode, Frame, Trap};
 use dpl_loop::RunStop;
 use dpl_loop::stop::told;
 use dpl_nodes::{BoolExpr, IntDeed, IntExpr, RangeExpr, Spot, TruthDeed};
-use dpl_strips::number::{difference, product, quotient, remainder, sum};
 use dpl_values::{Team, direct_int, int_value, range_value, truth_value};
 
 // A truth value's.

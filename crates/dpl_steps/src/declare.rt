@@ -26,13 +26,13 @@ ghost use Rattle.dpl_map.specs.Maps.{owner};
 
 use crate::domain::for_array;
 use crate::lineage::derived;
+use dpl_arithmetic::index::coordinate;
 use dpl_contents::ArrayWords;
 use dpl_domain::Index;
 use dpl_frame::{Arrays, DomainWord, Frame, Trap};
 use dpl_loop::{Gate, OpenGate, RunStop};
 use dpl_map::Map;
 use dpl_nodes::{ArrayDeclaration, DeclaredOver, Initial, PromotedInt, PromotedTruth, Spot};
-use dpl_strips::index::coordinate;
 use dpl_values::budget::within_budget;
 use dpl_values::domain::small;
 use dpl_values::{

@@ -1,4 +1,3 @@
-pub mod Wrapped
 pub mod Strips
 pub mod Paces
 pub mod Truths

@@ -5,7 +5,7 @@ ghost use Rattle.std.specs.Prelude.{◌≡◌, ◌≢◌, ◌≤◌, ◌<◌, �
 ghost use Rattle.dpl_language.specs.Arithmetic.{wrap};
 ghost use Rattle.dpl_strips.specs.Strips.{made_by, right_size, right_word};
 
-use crate::number::{difference, negative, product, quotient, remainder, sum};
+use dpl_arithmetic::number::{difference, negative, product, quotient, remainder, sum};
 use dpl_loop::{STRIP, Strip};
 
 /// An operator on two ints that wraps around, and so has no fault.

@@ -7,8 +7,6 @@
 #![tactic(auto)]
 
 mod apply;
-pub mod index;
-pub mod number;
 mod pace;
 mod strip;
 mod target;

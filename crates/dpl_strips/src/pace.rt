@@ -7,8 +7,8 @@ ghost use Rattle.dpl_strips.specs.Strips.{FitsTurns, GoesAs, GoesIn, GoesAfter, 
 ghost use Rattle.dpl_strips.specs.declared.apply.Wrapping.TheVariants.{Sum as SumOf, Difference as DifferenceOf};
 ghost use Rattle.dpl_strips.specs.declared.pace.Pace.TheVariants.{Steady as SteadyPace, Stepping as SteppingPace};
 
-use crate::number::{difference, sum};
 use crate::target::{Target, is_written};
+use dpl_arithmetic::number::{difference, sum};
 use dpl_frame::{Arrays, Frame};
 use dpl_loop::{Row, STRIP};
 use dpl_nodes::{IntExpr, Names};

@@ -14,10 +14,10 @@ ghost use Rattle.dpl_strips.specs.Strips.{paced, FitsTurns, written, IsInOwnTurn
 ghost use Rattle.dpl_strips.specs.Truths.{ElementsInTurns};
 
 use crate::apply::{Right, Wrapping, apply, copy, divide, leave, negate, repeat};
-use crate::index::{coordinate, plane, space};
-use crate::number::sum;
 use crate::pace::{Pace, first_step, pace_of, steady};
 use crate::target::{Target, target_at};
+use dpl_arithmetic::index::{coordinate, plane, space};
+use dpl_arithmetic::number::sum;
 use dpl_domain::Index;
 use dpl_frame::{Arrays, Frame};
 use dpl_loop::{Row, STRIP, Strip};

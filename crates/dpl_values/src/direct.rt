@@ -8,9 +8,9 @@ ghost use Rattle.dpl_language.specs.Values.{Int, Truth as TruthValue};
 ghost use Rattle.dpl_values.specs.Meanings.{int_in, truth_in, element_in};
 
 use crate::comparison::holds;
+use dpl_arithmetic::number::{difference, negative, product, quotient, remainder, sum};
 use dpl_frame::{Arrays, Frame};
 use dpl_nodes::{BoolExpr, IndexExpr, IntExpr};
-use dpl_strips::number::{difference, negative, product, quotient, remainder, sum};
 
 /// The value of an int, where it is found directly.
 #[inline(always)]

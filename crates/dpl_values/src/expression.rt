@@ -16,11 +16,11 @@ use crate::domain::{found, sized, small};
 use crate::range::{Written, bounded, contains, first, high, last, low, size, strided_by};
 use crate::reduction::{reduced_int, reduced_truth};
 use crate::team::Team;
+use dpl_arithmetic::index::{coordinate, plane, space};
+use dpl_arithmetic::number::{difference, negative, product, quotient, remainder, sum};
 use dpl_domain::Index;
 use dpl_frame::{Alarm, DomainWord, FaultCode, Frame, RangeWord, Truth, Turn};
 use dpl_nodes::{BoolExpr, DomainExpr, IndexExpr, IntExpr, RangeExpr, RangesExpr, Spot, Stride};
-use dpl_strips::index::{coordinate, plane, space};
-use dpl_strips::number::{difference, negative, product, quotient, remainder, sum};
 
 // An operand: a leaf at once, and else by a walk.
 #[cycle(walk)]

@@ -6,8 +6,8 @@ ghost use Rattle.dpl_language.specs.Values.{Int, Truth};
 ghost use Rattle.dpl_language.specs.Arithmetic.{combined, unit_of};
 ghost use Rattle.dpl_nodes.specs.Typed.{int_fold_view, truth_fold_view};
 
+use dpl_arithmetic::number::{product, sum};
 use dpl_nodes::{IntFold, TruthFold};
-use dpl_strips::number::{product, sum};
 
 /// Two ints put together.
 pub fn combined_ints(fold: IntFold, a: i64, b: i64) -> i64

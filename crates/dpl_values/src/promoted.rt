@@ -16,10 +16,10 @@ use crate::comparison::holds;
 use crate::domain::found;
 use crate::expression::{operand as scalar_operand, truth_value};
 use crate::team::Team;
+use dpl_arithmetic::number::{difference, negative, product, quotient, remainder, sum};
 use dpl_domain::Index;
 use dpl_frame::{Alarm, Arrays, DomainWord, FaultCode, Frame, Truth, Turn};
 use dpl_nodes::{PromotedInt, PromotedTruth};
-use dpl_strips::number::{difference, negative, product, quotient, remainder, sum};
 
 // An operand: an element or a scalar at once, and else by a walk.
 #[cycle(walk)]

@@ -2,8 +2,8 @@ use Rattle.std.proofs.Common.{w64, to_z, of_z, rules, ◌∙◌, ap}
 use Rattle.std.proofs.lemmas.Int.{to_z-of_z}
 use Rattle.std.specs.Int.{int_wrapping_div}
 use mir.Val.{SFits}
-use Rattle.dpl_strips.proofs.Wrapped.{wrap_quotient}
-use Rattle.dpl_strips.proofs.number.quotient.Goals as goal
+use Rattle.dpl_arithmetic.proofs.Wrapped.{wrap_quotient}
+use Rattle.dpl_arithmetic.proofs.number.quotient.Goals as goal
 
 pub returns : goal.returns
 returns c =

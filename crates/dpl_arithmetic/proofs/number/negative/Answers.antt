@@ -2,7 +2,7 @@ use Rattle.std.proofs.Common.{w64, rules, ◌∙◌, ap}
 use Rattle.std.proofs.lemmas.Int.{wrapping_neg_is, to_z-of_z}
 use Rattle.std.specs.Int.{int_wrapping_neg}
 use mir.Val.{SFits}
-use Rattle.dpl_strips.proofs.number.negative.Goals as goal
+use Rattle.dpl_arithmetic.proofs.number.negative.Goals as goal
 
 pub returns : goal.returns
 returns c =
