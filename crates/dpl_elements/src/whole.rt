@@ -35,9 +35,10 @@ use dpl_frame::{Arrays, DomainWord, Frame};
 use dpl_loop::{Apart, OpenGate, Row, RunStop, Strip, Turns};
 use dpl_nodes::{ArrayName, PromotedInt, PromotedTruth, Spot};
 use dpl_strips::{promoted_ints, repeat};
+use dpl_teams::Alone;
 use dpl_tree::Assign;
 use dpl_values::budget::within_budget;
-use dpl_values::{Alone, int_domain, promoted_int_value, promoted_truth_value, truth_domain};
+use dpl_values::{int_domain, promoted_int_value, promoted_truth_value, truth_domain};
 use std::alloc::AllocError;
 
 /// One int at each index.

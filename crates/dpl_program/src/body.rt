@@ -9,13 +9,13 @@ ghost use Rattle.dpl_steps.specs.Contexts.{index_turn};
 use dpl_dependence::{are_independent, are_own};
 use dpl_domain::Index;
 use dpl_frame::{Alarm, Arrays, DomainWord, Frame, Truth, Turn};
-use dpl_loop::{Apart, Gate, Row, RunStop, Turns, forall_here};
+use dpl_loop::{Apart, Gate, Row, RunStop, Strip, Turns, forall_here};
 use dpl_map::Map;
 use dpl_nodes::{
     Argument, DomainExpr, IntFold, Intent, Names, PromotedInt, PromotedTruth, RangeExpr, Spot,
     Step, TruthFold,
 };
-use dpl_steps::{Context, Crew, Team, WholeTurns, bind, make_row, run};
+use dpl_steps::{Context, Crew, Team, WholeTurns, bind, make_row, promoted_strip, run};
 use std::alloc::AllocError;
 use std::marker::PhantomData;
 
@@ -66,6 +66,11 @@ impl<A: Arrays> Team for TurnContext<A> {
         _turn: &mut Turn,
     ) -> Option<Result<Truth, Alarm>> {
         None
+    }
+
+    #[inline(always)]
+    fn promoted_strip(&self, e: &PromotedInt<'_>, row: Row, frame: &Frame<A>) -> Strip {
+        promoted_strip(e, row, frame)
     }
 }
 

@@ -24,7 +24,7 @@ use crate::body::Body;
 use crate::dealt::dealt;
 use crate::forall::{Forall, make_forall};
 use dpl_frame::{Alarm, Arrays, DomainWord, Frame, RangeWord, Slots, Truth, Turn};
-use dpl_loop::{Gate, RunStop, forall, forall_line};
+use dpl_loop::{Gate, Row, RunStop, Strip, forall, forall_line};
 use dpl_map::Map;
 use dpl_nodes::{
     Argument, DomainExpr, IntFold, Intent, Names, PromotedInt, PromotedTruth, RangeExpr, Spot,
@@ -32,8 +32,8 @@ use dpl_nodes::{
 };
 use dpl_print::write;
 use dpl_steps::{
-    Context, Crew, Team, WholeTurns, domain_indices, range_indices, reduced_int_by_workers,
-    reduced_truth_by_workers, run as run_steps,
+    Context, Crew, Team, WholeTurns, domain_indices, promoted_strip, range_indices,
+    reduced_int_by_workers, reduced_truth_by_workers, run as run_steps,
 };
 use std::sync::Wait;
 use std::thread::Threads;
@@ -111,6 +111,10 @@ where
         turn: &mut Turn,
     ) -> Option<Result<Truth, Alarm>> {
         Some((self.reduce_truths)(fold, e, at, frame, turn))
+    }
+
+    fn promoted_strip(&self, e: &PromotedInt<'_>, row: Row, frame: &Frame) -> Strip {
+        promoted_strip(e, row, frame)
     }
 }
 

@@ -1,4 +1,5 @@
 pub mod Looping
+pub mod Starting
 pub mod Rooting
 pub mod Tested
 pub mod Gathered

@@ -27,7 +27,7 @@ use Rattle.dpl_nodes.specs.Roots.{slot_of, slot_by}
 use Rattle.dpl_nodes.specs.Typed.{dotted, domain_view}
 use Rattle.dpl_nodes.specs.Steps.{dimensions, over_items, domain_declared}
 use Rattle.dpl_frame.specs.Frames.{Framed, with_memory}
-use Rattle.dpl_values.proofs.Starting.{start-least, cyclic-named}
+use Rattle.dpl_steps.proofs.Starting.{start-least, cyclic-named}
 use Rattle.dpl_elements.specs.Changes.{ends_as}
 use Rattle.dpl_elements.proofs.Changing.{evaluated-item}
 use Rattle.dpl_steps.specs.Lineages.{slot_root, valued_root, empty_root}

@@ -33,11 +33,12 @@ use dpl_frame::{Arrays, DomainWord, Frame, Trap};
 use dpl_loop::{Gate, OpenGate, RunStop};
 use dpl_map::Map;
 use dpl_nodes::{ArrayDeclaration, DeclaredOver, Initial, PromotedInt, PromotedTruth, Spot};
+use dpl_teams::Alone;
 use dpl_values::budget::within_budget;
 use dpl_values::domain::small;
 use dpl_values::{
-    Alone, Team, domain_value, int_domain, literal, promoted_int_value, promoted_truth_value,
-    range_value, sized, truth_domain,
+    Team, domain_value, int_domain, literal, promoted_int_value, promoted_truth_value, range_value,
+    sized, truth_domain,
 };
 
 // The domain that stands between an array's brackets.

@@ -8,9 +8,9 @@ ghost use Rattle.dpl_frame.specs.Roots.{root_view};
 ghost use Rattle.dpl_values.specs.Meanings.{domain_in};
 ghost use Rattle.dpl_steps.specs.Lineages.{rooted, slot_root, valued_root, empty_root};
 
+use crate::root::{from_least, named};
 use dpl_frame::{Arrays, Distribution, DomainWord, Frame, Root};
 use dpl_nodes::{DomainExpr, Placing};
-use dpl_values::{from_least, named};
 use std::alloc::AllocError;
 
 /// What tells a root: another root, or what is named for a root of its own.

@@ -5,5 +5,4 @@ pub mod Found
 pub mod First
 pub mod Telling
 pub mod Worked
-pub mod Starting
 pub mod Listed

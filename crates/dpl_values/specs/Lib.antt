@@ -1,5 +1,3 @@
--- Where maps start that are named.
-pub mod Starts
 -- Whose map deals out the indices of a reduction; and which entries the reductions of an expression ask for.
 pub mod Reducing
 pub mod Reductions

@@ -29,7 +29,7 @@ pub fn within_budget<A: Arrays>(
 ///
 /// # Errors
 /// `F5` at a place for more than the budget.
-pub(crate) fn within_turns<A: Arrays>(
+pub fn within_turns<A: Arrays>(
     domain: &DomainWord,
     at: &Spot,
     frame: &Frame<A>,

@@ -368,7 +368,7 @@ fn cut<G: Team>(
 /// # Errors
 /// `F3` at the opening bracket for too many indices, and at `expand` for these or for a bound past its limit.
 #[cycle(walk)]
-pub(crate) fn domain_value<G: Team>(
+pub fn domain_value<G: Team>(
     e: &DomainExpr<'_>,
     frame: &Frame<G::Kept>,
     gate: &G,

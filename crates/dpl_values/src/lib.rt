@@ -1,30 +1,27 @@
 // The values of typed expressions over a frame: what the language's meaning gives for the plain trees that they stand for.
 // No walk takes memory but for a reduction by workers, and none has an arm for what can't be.
 // What a reduction folds is a promoted expression, evaluated at each index of the first whole array in it and dealt out by that one's map
-// (reduction.rt). Whoever walks makes it, unless the team that it is handed (team.rt) has workers for it (by_workers.rt). Ints of several
-// indices are evaluated at once where there are strips (dpl_strips).
+// (reduction.rt). Whoever walks makes it, unless the team that it is handed (team.rt) has workers for it. Ints of several indices are
+// evaluated at once where the team has strips of them. Teams stand above (dpl_teams).
 #![tactic(auto)]
 
 pub mod budget;
-mod by_workers;
 mod comparison;
 mod direct;
 pub mod domain;
-mod expression;
+pub mod expression;
 pub mod fold;
-mod promoted;
+pub mod promoted;
 mod range;
 mod reduction;
-mod root;
 mod team;
 mod values;
 
-pub use by_workers::{reduced_int_by_workers, reduced_truth_by_workers};
 pub use direct::{direct_int, direct_truth};
 pub use expression::coordinate_value;
 pub use promoted::{int_domain, truth_domain};
-pub use root::{from_least, named};
-pub use team::{Alone, Team};
+pub use reduction::Ints;
+pub use team::Team;
 pub use values::{
     domain_value, index_value, int_value, literal, promoted_int_value, promoted_truth_value,
     range_value, sized, truth_value,

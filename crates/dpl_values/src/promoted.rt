@@ -21,10 +21,13 @@ use dpl_domain::Index;
 use dpl_frame::{Alarm, Arrays, DomainWord, FaultCode, Frame, Truth, Turn};
 use dpl_nodes::{PromotedInt, PromotedTruth};
 
-// An operand: an element or a scalar at once, and else by a walk.
+/// The value of an operand at an index: of an element or a scalar at once, and else by a walk.
+///
+/// # Errors
+/// As for a promoted int.
 #[cycle(walk)]
 #[inline(always)]
-pub(crate) fn operand<G: Team>(
+pub fn operand<G: Team>(
     e: &PromotedInt<'_>,
     index: &Index,
     frame: &Frame<G::Kept>,
@@ -104,7 +107,7 @@ pub(crate) fn promoted_int_value<G: Team>(
 /// # Errors
 /// The fault of an operand, and `F1` at the name of an array that hasn't the index.
 #[cycle(truth)]
-pub(crate) fn promoted_truth_value<G: Team>(
+pub fn promoted_truth_value<G: Team>(
     e: &PromotedTruth<'_>,
     index: &Index,
     frame: &Frame<G::Kept>,
@@ -156,7 +159,7 @@ pub(crate) fn promoted_truth_value<G: Team>(
 }
 
 /// The slot of the first whole array in a promoted int, if there is one.
-pub(crate) fn int_array(e: &PromotedInt<'_>) -> Option<usize>
+pub fn int_array(e: &PromotedInt<'_>) -> Option<usize>
     ensures { result ≡ first_of_ints e.now }
 {
     match e {
@@ -175,7 +178,7 @@ pub(crate) fn int_array(e: &PromotedInt<'_>) -> Option<usize>
 }
 
 /// The slot of the first whole array in a promoted truth value, if there is one.
-pub(crate) fn truth_array(e: &PromotedTruth<'_>) -> Option<usize>
+pub fn truth_array(e: &PromotedTruth<'_>) -> Option<usize>
     ensures { result ≡ first_of_truths e.now }
 {
     match e {

@@ -22,12 +22,11 @@ use dpl_domain::Index;
 use dpl_frame::{Alarm, Arrays, Frame, Truth, Turn};
 use dpl_loop::{Gate, Operator, Row, Strip, reduce, reduce_ints};
 use dpl_nodes::{IntFold, PromotedInt, PromotedTruth, Spot, TruthFold};
-use dpl_strips::promoted_strip;
 
 /// An operator on ints.
 #[derive(Clone, Copy)]
-pub(crate) struct Ints {
-    pub(crate) fold: IntFold,
+pub struct Ints {
+    pub fold: IntFold,
 }
 
 impl Operator for Ints {
@@ -182,7 +181,7 @@ fn reduced_int_here<G: Team>(
     { operand(e, &index, frame, gate, turn) };
     let strip_at = |row: Row| -> Strip
         ensures { (result.row ≡ row) × HoldsStrip Int (λ i. int_at frame.entry.now e.entry.now i) result }
-    { promoted_strip(e, row, frame) };
+    { gate.promoted_strip(e, row, frame) };
     folded_ints(&Ints { fold }, slot, frame, item_at, strip_at, gate, turn)
 }
 

@@ -8,17 +8,17 @@ ghost use Rattle.dpl_memory.specs.Memory.{in_memory};
 ghost use Rattle.dpl_nodes.specs.Steps.{start_view, map_view};
 ghost use Rattle.dpl_frame.specs.Roots.{distribution_view};
 ghost use Rattle.dpl_frame.specs.Faults.{of_domain};
-ghost use Rattle.dpl_values.specs.Starts.{value_or_none, blocks_or_none};
+ghost use Rattle.dpl_steps.specs.Starts.{value_or_none, blocks_or_none};
 ghost use Rattle.dpl_values.specs.Meanings.{domain_in};
 
-use crate::expression::domain_value;
-use crate::team::Alone;
-use crate::values::index_value;
 use dpl_domain::Index;
 use dpl_frame::{Arrays, Distribution, DomainWord, Frame, Trap, Turn};
 use dpl_layout::least;
 use dpl_loop::{OpenGate, RunStop};
 use dpl_nodes::{DomainExpr, MapExpr, StartExpr};
+use dpl_teams::Alone;
+use dpl_values::expression::domain_value;
+use dpl_values::index_value;
 use std::alloc::AllocError;
 
 // A domain that a map names, or its fault; or memory ran out. No gate is asked for a map's argument.
@@ -89,7 +89,10 @@ fn block_cyclic(start: Option<Index>, sizes: Option<Index>) -> Distribution
 ///
 /// # Errors
 /// Out of memory.
-pub fn named<A: Arrays>(e: &MapExpr<'_>, frame: &Frame<A>) -> Result<Distribution, AllocError>
+pub(crate) fn named<A: Arrays>(
+    e: &MapExpr<'_>,
+    frame: &Frame<A>,
+) -> Result<Distribution, AllocError>
     ensures { IfOk result (λ named. distribution_view named
         ≡ or_no_map (map_of frame.now.limits in_memory (map_view e.now) frame.now.memory)) }
 {
@@ -107,7 +110,7 @@ pub fn named<A: Arrays>(e: &MapExpr<'_>, frame: &Frame<A>) -> Result<Distributio
 }
 
 /// What is named for a domain that is created with a cyclic map: `cyclicDist` from its least members.
-pub fn from_least(domain: DomainWord) -> Distribution
+pub(crate) fn from_least(domain: DomainWord) -> Distribution
     ensures { distribution_view result ≡ cyclic_or_none (least_in domain) }
 {
     cyclic(corner(domain))

@@ -20,7 +20,7 @@ use Rattle.dpl_language.specs.Roots.{or_no_map, cyclic_or_none, start_of}
 use Rattle.dpl_memory.specs.Memory.{Variable, Memory, in_memory}
 use Rattle.dpl_nodes.specs.Typed.{dotted}
 use Rattle.dpl_nodes.specs.Steps.{low_word}
-use Rattle.dpl_values.specs.Starts.{value_or_none}
+use Rattle.dpl_steps.specs.Starts.{value_or_none}
 use Rattle.dpl_values.proofs.Ranges.{told_end, end_of-least}
 
 -- LEAST MEMBERS

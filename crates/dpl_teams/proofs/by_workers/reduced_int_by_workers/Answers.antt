@@ -18,7 +18,7 @@ use Rattle.dpl_values.specs.Reductions.{OfSlot, EachInInts}
 use Rattle.dpl_values.proofs.First.{ints_whole}
 use Rattle.dpl_values.proofs.Folds.{reduction-within}
 use Rattle.dpl_values.proofs.Telling.{refused-within}
-use Rattle.dpl_values.proofs.by_workers.reduced_int_by_workers.Goals as goal
+use Rattle.dpl_teams.proofs.by_workers.reduced_int_by_workers.Goals as goal
 
 pub returns-in_default : goal.returns-in_default
 returns-in_default g c =

@@ -19,7 +19,7 @@ use Rattle.dpl_values.specs.Reductions.{OfSlot, EachInTruths}
 use Rattle.dpl_values.proofs.First.{truths_whole}
 use Rattle.dpl_values.proofs.Folds.{reduction-within, with_ok-same}
 use Rattle.dpl_values.proofs.Telling.{refused-within}
-use Rattle.dpl_values.proofs.by_workers.reduced_truth_by_workers.Goals as goal
+use Rattle.dpl_teams.proofs.by_workers.reduced_truth_by_workers.Goals as goal
 
 pub returns-in_default : goal.returns-in_default
 returns-in_default g c =
