@@ -19,7 +19,7 @@ use Rattle.dpl_elements.specs.Turns.{IsApart, HasRoom}
 use Rattle.dpl_batches.specs.Stores.{unmade, AreApart, HaveRoom, AreFound, HaveElements, Begins, goes_in, done_where, else_body, by_now, all_stored}
 use Rattle.dpl_batches.specs.declared.store.Store.{Store}
 use Rattle.dpl_batches.proofs.StoreTurns.{own-now}
-use Rattle.dpl_batches.proofs.Branching.{then_do-done, scoped-same, if-then, if-else}
+use Rattle.dpl_elements.proofs.Branching.{then_do-done, scoped-same, if-then, if-else}
 
 -- STORES ALIKE: of the same slots and rows
 first_of : Written → List Written → Written

@@ -1,7 +1,6 @@
 -- What serves contracts and proofs alone.
 pub mod Rooms
 pub mod FoldedTurns
-pub mod Branching
 pub mod Stores
 pub mod StoreTurns
 pub mod Kept

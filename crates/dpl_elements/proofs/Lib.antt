@@ -7,3 +7,4 @@ pub mod PutRows
 pub mod BoundAgain
 pub mod RowTurns
 pub mod Wholes
+pub mod Branching

@@ -34,7 +34,7 @@ use Rattle.dpl_loop.specs.declared.stop.RunStop.{RunStop}
 use Rattle.dpl_loop.specs.Runs.{AreDone, RunsTo}
 use Rattle.dpl_loop.proofs.Ends.{then_do-halts, halts-alike}
 use Rattle.dpl_loop.proofs.Order.{order-done}
-use Rattle.dpl_batches.proofs.Branching.{scoped-same}
+use Rattle.dpl_elements.proofs.Branching.{scoped-same}
 use Rattle.dpl_elements.specs.Turns.{in_turn, turn_in_memory, bound_at, index_turn, within, looped_over}
 
 -- RUNS ONE AFTER ANOTHER

@@ -1,10 +1,4 @@
--- How their parts answer, by how the language's meaning ends.
-pub mod Runs
--- Where maps start that are named.
-pub mod Starts
--- Which root a declared domain or array gets.
-pub mod Lineages
--- Which entries a gate may refuse of one statement.
+-- Which entries a gate may refuse of a forall.
 pub mod Refusals
 -- What a context is made with, of the crates below.
 pub mod Contexts

@@ -19,18 +19,17 @@ ghost use Rattle.dpl_readings.specs.Readings.{step_in, else_in, steps_in};
 ghost use Rattle.dpl_elements.specs.Turns.{in_turn, turn_in_memory, looped_over};
 
 use crate::context::Context;
-use crate::declare::declare_array;
-use crate::direct::{direct_statement, direct_statements, is_met};
-use crate::domain::{declare_domain, set_domain};
 use crate::each::for_each;
 use crate::rows::rows;
-use crate::simple;
 use dpl_elements::{set_array, set_truth_array};
 use dpl_frame::{FaultCode, Frame, RangeWord, Trap};
 use dpl_loop::RunStop;
 use dpl_loop::stop::told;
 use dpl_nodes::{BoolExpr, Else, RangeExpr, Spot, Step};
 use dpl_range::Range;
+use dpl_simple::{
+    declare_array, declare_domain, direct_statement, direct_statements, is_met, set_domain, simple,
+};
 use dpl_values::{Team, direct_truth, range_value, truth_value};
 
 /// What a loop runs over: its range is evaluated once, and its size is tested against the budget.

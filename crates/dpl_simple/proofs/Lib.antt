@@ -1,0 +1,4 @@
+pub mod Starting
+pub mod Rooting
+pub mod Gathered
+pub mod ArrayItems
