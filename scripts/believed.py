@@ -11,9 +11,9 @@ HOUSE = os.path.dirname(os.path.dirname(os.path.realpath(__file__)))
 # its clause `unrefused` by a law of the rules (`sound_admitted`).
 ROOTS = {
     "dpl_run/Headline": ["IsRead", "Says"],
-    "dpl_run/Settings": ["Settings", "limits_of", "layout_of", "AreLocales", "IsCount", "IsGrid2", "IsGrid3"],
-    "dpl_run/Writers": ["fails", "Partly"],
-    "dpl_run/Leaving": ["variable_view"],
+    "dpl_outcome/Settings": ["Settings", "limits_of", "layout_of", "AreLocales", "IsCount", "IsGrid2", "IsGrid3"],
+    "dpl_outcome/Writers": ["fails", "Partly"],
+    "dpl_outcome/Leaving": ["variable_view"],
     "dpl_run/Programs": ["CheckedProgram", "AreSpelled", "Runs"],
     "dpl_loop/Entries": ["MayRefuseSome"],
     "dpl_says/Dump": ["dumped"],

@@ -3,12 +3,12 @@ use Rattle.std.proofs.Common.{◌≡◌, refl, ℕ, List, Option, Result, Ok, Er
 use Rattle.std.specs.Prelude.{IfOk, IfErr}
 use Rattle.std.specs.Io.KnownBytes.{Keeps}
 use Rattle.std.specs.declared.io.ErrorKind.{ErrorKind}
-use Rattle.dpl_run.specs.declared.outcome.Outcome.{Outcome}
-use Rattle.dpl_run.specs.declared.refused.Refused.{Refused}
-use Rattle.dpl_run.specs.declared.refused.Refused.TheVariants.{Memory, Thread, Gate, Writer}
+use Rattle.dpl_outcome.specs.declared.outcome.Outcome.{Outcome}
+use Rattle.dpl_outcome.specs.declared.refused.Refused.{Refused}
+use Rattle.dpl_outcome.specs.declared.refused.Refused.TheVariants.{Memory, Thread, Gate, Writer}
 use Rattle.dpl_run.specs.Headline.{Says}
-use Rattle.dpl_run.specs.Settings.{Settings, limits_of}
-use Rattle.dpl_run.specs.Writers.{Partly}
+use Rattle.dpl_outcome.specs.Settings.{Settings, limits_of}
+use Rattle.dpl_outcome.specs.Writers.{Partly}
 use Rattle.dpl_command.specs.declared.ended.Ended.{Ended}
 use Rattle.dpl_command.specs.declared.ended.Ended.TheVariants.{Failed}
 use Rattle.dpl_command.specs.Ending.{read_of, HasRun, IsRunOf}

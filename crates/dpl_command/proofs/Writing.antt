@@ -1,9 +1,9 @@
 -- Writes that are cut off.
 use Rattle.std.proofs.Common.{◌≡◌, sym, subst, ℕ, Bool, true, List, Option, Result, Ok, Err}
 use Rattle.std.specs.Prelude.{IfErr, OnErr}
-use Rattle.dpl_run.specs.declared.refused.Refused.{Refused}
-use Rattle.dpl_run.specs.declared.refused.Refused.TheVariants.{Writer}
-use Rattle.dpl_run.specs.Writers.{Partly}
+use Rattle.dpl_outcome.specs.declared.refused.Refused.{Refused}
+use Rattle.dpl_outcome.specs.declared.refused.Refused.TheVariants.{Writer}
+use Rattle.dpl_outcome.specs.Writers.{Partly}
 use Rattle.dpl_command.specs.Ending.{IsCutBy}
 
 -- what a writer failed to take whole

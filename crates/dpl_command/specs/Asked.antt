@@ -4,7 +4,7 @@ use Rattle.dpl_settings.specs.declared.maps.RootMaps.{RootMaps}
 use Rattle.dpl_settings.specs.declared.maps.RootMaps.TheVariants as asked
 use Rattle.dpl_layout.specs.declared.maps.Maps.{Maps}
 use Rattle.dpl_layout.specs.declared.maps.Maps.TheVariants.{AsIs, Block, Cyclic}
-use Rattle.dpl_run.specs.Settings.{Settings as RunSettings}
+use Rattle.dpl_outcome.specs.Settings.{Settings as RunSettings}
 
 abbrev pub maps_of : RootMaps → Maps
 maps_of asked.AsIs = AsIs

@@ -3,12 +3,12 @@
 use Rattle.std.specs.Prelude.{◌≡◌, ℕ, Bool, true, false, List, [], ◌++◌, take, Option, Result, Ok, Err, IfSome}
 use Rattle.std.specs.Io.KnownBytes.{Appends, Keeps}
 use Rattle.std.specs.declared.io.ErrorKind.{ErrorKind}
-use Rattle.dpl_run.specs.declared.outcome.Outcome.{Outcome}
-use Rattle.dpl_run.specs.declared.refused.Refused.{Refused}
-use Rattle.dpl_run.specs.declared.refused.Refused.TheVariants.{Memory, Thread, Gate, Writer}
+use Rattle.dpl_outcome.specs.declared.outcome.Outcome.{Outcome}
+use Rattle.dpl_outcome.specs.declared.refused.Refused.{Refused}
+use Rattle.dpl_outcome.specs.declared.refused.Refused.TheVariants.{Memory, Thread, Gate, Writer}
 use Rattle.dpl_run.specs.Headline.{Says}
-use Rattle.dpl_run.specs.Settings.{Settings, limits_of}
-use Rattle.dpl_run.specs.Writers.{Partly}
+use Rattle.dpl_outcome.specs.Settings.{Settings, limits_of}
+use Rattle.dpl_outcome.specs.Writers.{Partly}
 use Rattle.dpl_command.specs.declared.ended.Ended.{Ended}
 use Rattle.dpl_command.specs.declared.ended.Ended.TheVariants.{Ran, Failed, Unread}
 use Rattle.dpl_command.specs.Statuses.{IsUnreadBy, IsUntold, status_of, told_of}

@@ -2,10 +2,10 @@
 use Rattle.std.specs.Prelude.{◌≡◌, ◌≢◌, ℕ, Bool, true, false, List, [], ◌∷◌, ◌++◌, codes, Result, Ok, Err}
 use Rattle.std.specs.declared.io.ErrorKind.{ErrorKind}
 use Rattle.std.specs.declared.io.ErrorKind.TheVariants.{OutOfMemory}
-use Rattle.dpl_run.specs.declared.outcome.Outcome.TheVariants.{Done, Stopped, Rejected}
-use Rattle.dpl_run.specs.declared.refused.Refused.{Refused}
-use Rattle.dpl_run.specs.declared.refused.Refused.TheVariants.{Memory, Thread, Gate, Writer}
-use Rattle.dpl_run.specs.Refusals.{refused_text}
+use Rattle.dpl_outcome.specs.declared.outcome.Outcome.TheVariants.{Done, Stopped, Rejected}
+use Rattle.dpl_outcome.specs.declared.refused.Refused.{Refused}
+use Rattle.dpl_outcome.specs.declared.refused.Refused.TheVariants.{Memory, Thread, Gate, Writer}
+use Rattle.dpl_outcome.specs.Refusals.{refused_text}
 use Rattle.dpl_says.specs.Dump.{dumped}
 use Rattle.dpl_command.specs.declared.ended.Ended.{Ended}
 use Rattle.dpl_command.specs.declared.ended.Ended.TheVariants.{Ran, Failed, Unread}

@@ -3,7 +3,7 @@
 
 ghost use Rattle.std.specs.Prelude.{◌≡◌, codes, ◌++◌, ◌∷◌, []};
 ghost use Rattle.std.specs.IoError.{error_kind};
-ghost use Rattle.dpl_run.specs.Refusals.{refused_text};
+ghost use Rattle.dpl_outcome.specs.Refusals.{refused_text};
 ghost use Rattle.dpl_command.specs.Statuses.{IsUnreadBy, refused_status, status_of};
 
 use dpl_run::{Outcome, Refused};

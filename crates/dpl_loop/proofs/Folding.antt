@@ -6,18 +6,12 @@ use Rattle.dpl_language.specs.Values.{Value, Index, Fault}
 use Rattle.dpl_language.specs.Arithmetic.{combined, unit_of}
 use Rattle.dpl_language.specs.Outcome.{with_ok}
 use Rattle.dpl_sets.specs.TextRanges.{TextRange}
-use Rattle.dpl_sets.specs.Ranges.{RangeValue}
-use Rattle.dpl_map.specs.Maps.{AxisValue}
 use Rattle.dpl_language.specs.Ranges.{indices_in}
 use Rattle.dpl_language.specs.Expressions.{folded, fold_over}
 use Rattle.dpl_frame.specs.declared.fault.Turn.{Turn}
 use Rattle.dpl_frame.specs.Faults.{Halt, Faulted, Refused, OutOfMemory, Tells}
 use Rattle.dpl_apart.specs.Operands.{IsOperand}
-use Rattle.dpl_loop.specs.declared.ended.Ended.{Ended}
-use Rattle.dpl_loop.specs.declared.parts.Part.{Part}
-use Rattle.dpl_loop.specs.Parts.{indices_of}
 use Rattle.dpl_loop.specs.Folds.{in_turns, OperandThen, AreOperands, FoldHalts, FoldEnds}
-use Rattle.dpl_loop.specs.Values.{FoldsTell, MayEndRefused}
 
 -- what would follow a walk that ended early isn't looked at
 pub with_ok-ends : {A B C D : Type 0} (may more : Type 0) (value : A → B) (t : Turn) (h : Halt) (v : Result B Fault) (go : B → Result C Fault) (all : Result C Fault) (given : D → C)
@@ -73,16 +67,6 @@ fold-tells may more as_value op meaning ts over turn r go same ends = by r (subs
   by (Err Refused) ends = go ends
   by (Err OutOfMemory) ends = tt
 
--- a fold of a part, by an answer that is told of it
-pub told-or-refused : (value : ℤ → Value) (op : Op) (meaning : Index → Result Value Fault) (whole : List RangeValue) (axes : List AxisValue) (answers : Part → ℕ → Ended → Type 0) → FoldsTell value op meaning whole axes answers
-    → (p : Part) (l : ℕ) (e : Ended) → answers p l e → FoldEnds (MayEndRefused answers) value op (in_turns meaning) (indices_of p whole axes l) e.turn e.item
-told-or-refused value op meaning whole axes answers tell p l e answer = by e.item refl (tell p l e answer) where
-  by : (r : Result ℤ Halt) → e.item ≡ r → FoldEnds (Unit {0}) value op (in_turns meaning) (indices_of p whole axes l) e.turn r → FoldEnds (MayEndRefused answers) value op (in_turns meaning) (indices_of p whole axes l) e.turn r
-  by (Ok a) is ends = ends
-  by (Err (Faulted f)) is ends = ends
-  by (Err Refused) is ends = (p, l, e, answer, is)
-  by (Err OutOfMemory) is ends = tt
-
 -- where more may be refused
 pub ends-weaker : {A : Type 0} (may more : Type 0) (as_value : A → Value) (op : Op) (value : Index → Result Value Fault) (ts : List Index) (turn : Turn) (r : Result A Halt)
     → (may → more) → FoldEnds may as_value op value ts turn r → FoldEnds more as_value op value ts turn r
@@ -90,12 +74,3 @@ ends-weaker may more as_value op value ts turn (Ok a) go ends = ends
 ends-weaker may more as_value op value ts turn (Err (Faulted f)) go ends = ends
 ends-weaker may more as_value op value ts turn (Err Refused) go ends = go ends
 ends-weaker may more as_value op value ts turn (Err OutOfMemory) go ends = tt
-
--- what parts come to together is the reduction; where an answer for one is a refusal, that may be
-pub parts-tell : (may more : Type 0) (value : ℤ → Value) (op : Op) (meaning : Index → Result Value Fault) (whole : List RangeValue) (axes : List AxisValue) (answers : Part → ℕ → Ended → Type 0) (ts : List Index) (over : List TextRange) (turn : Turn) (r : Result ℤ Halt)
-    → (may → more) → ts ≡ indices_in over → Tells (MayEndRefused answers) value turn r (folded op (in_turns meaning) ts (unit_of op))
-    → ((p : Part) (l : ℕ) (e : Ended) → answers p l e → FoldEnds may value op (in_turns meaning) (indices_of p whole axes l) e.turn e.item) → Tells more value turn r (fold_over op meaning over)
-parts-tell may more value op meaning whole axes answers ts over turn r go same tells each =
-    tells-as _ value turn more r (folded op (in_turns meaning) ts (unit_of op)) (fold_over op meaning over)
-    (λ refused. go (subst (λ r. FoldEnds may value op (in_turns meaning) (indices_of refused.0 whole axes refused.1) refused.2.turn r) refused.4 (each refused.0 refused.1 refused.2 refused.3)))
-    (ap (λ ts. folded op (in_turns meaning) ts (unit_of op)) (sym same)) tells

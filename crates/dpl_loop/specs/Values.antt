@@ -1,6 +1,5 @@
 -- What an evaluation gives, and what a reduction asks of the function that gives its items.
 use Rattle.std.specs.Prelude.{◌≡◌, ◌<◌, ℕ, ℤ, pos, List, drop, get_or, slice_get, Some, Result, Ok, Err}
-use Rattle.dpl_sets.specs.Ranges.{RangeValue}
 use Rattle.dpl_map.specs.Maps.{AxisValue, owner}
 use Rattle.dpl_language.specs.Tree.{Op}
 use Rattle.dpl_language.specs.Expressions.{folded}
@@ -12,10 +11,7 @@ use Rattle.dpl_frame.specs.declared.fault.Turn.{Turn}
 use Rattle.dpl_frame.specs.Faults.{Halt, Refused, Tells, fault_view}
 use Rattle.dpl_loop.specs.declared.stop.RunStop.{RunStop}
 use Rattle.dpl_loop.specs.declared.stop.RunStop.TheVariants as stop
-use Rattle.dpl_loop.specs.declared.ended.Ended.{Ended}
-use Rattle.dpl_loop.specs.declared.parts.Part.{Part}
-use Rattle.dpl_loop.specs.Parts.{indices_of}
-use Rattle.dpl_loop.specs.Folds.{in_turns, AreOperands, FoldHalts, FoldEnds}
+use Rattle.dpl_loop.specs.Folds.{AreOperands, FoldHalts}
 
 -- the value itself, or its fault; or an entry was refused, which may be. Where memory ran out nothing is said; no want of a thread is told.
 abbrev pub Gives : {A B : Type 0} → Type 0 → (A → B) → Result A RunStop → Result B Fault → Type 0
@@ -34,15 +30,6 @@ module _ {V : Type 0} where
   -- some answer is a refusal
   abbrev pub MayAnswerRefused : (Index → MutBor Turn → Result V Halt → MutBor Turn → Type 0) → Type 0
   MayAnswerRefused answers = (t : Index) × (before : MutBor Turn) × (after : MutBor Turn) × answers t before (Err Refused) after
-
--- what a function answers of a locale's part is how the fold over its indices ends; of a refusal nothing is asked
-abbrev pub FoldsTell : (ℤ → Value) → Op → (Index → Result Value Fault) → List RangeValue → List AxisValue → (Part → ℕ → Ended → Type 0) → Type 0
-FoldsTell value op meaning whole axes answers =
-    (p : Part) (l : ℕ) (e : Ended) → answers p l e → FoldEnds (Unit {0}) value op (in_turns meaning) (indices_of p whole axes l) e.turn e.item
-
--- some answer is a refusal
-abbrev pub MayEndRefused : (Part → ℕ → Ended → Type 0) → Type 0
-MayEndRefused answers = (p : Part) × (l : ℕ) × (e : Ended) × answers p l e × (e.item ≡ Err Refused)
 
 -- each int of a strip is the value at its index
 abbrev pub HoldsStrip : (ℤ → Value) → (Index → Result Value Fault) → Strip → Type 0

@@ -50,7 +50,7 @@ pub(crate) fn entered<A: Arrays, T: Turns, G: Gate>(
 ///
 /// # Errors
 /// As for [`forall_here`].
-pub(crate) fn turns_of<A: Arrays, T: Turns, G: Gate>(
+pub fn turns_of<A: Arrays, T: Turns, G: Gate>(
     turns: &T,
     domain: &Domain,
     map: &Map,

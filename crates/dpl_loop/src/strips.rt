@@ -115,7 +115,7 @@ fn gone_on<
 }
 
 // The ints of a domain's indices put together, as `fold` does it, with what answers for several at once.
-pub(crate) fn fold_strips<
+pub fn fold_strips<
     O: Operator<Item = i64>,
     F: Fn(Index, &mut Turn) -> Result<i64, Alarm>,
     S: Fn(Row) -> Strip,

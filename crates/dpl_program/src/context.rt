@@ -24,7 +24,7 @@ use crate::body::Body;
 use crate::dealt::dealt;
 use crate::forall::{Forall, make_forall};
 use dpl_frame::{Alarm, Arrays, DomainWord, Frame, RangeWord, Slots, Truth, Turn};
-use dpl_loop::{Gate, Row, RunStop, Strip, forall, forall_line};
+use dpl_loop::{Gate, Row, RunStop, Strip, forall_line};
 use dpl_map::Map;
 use dpl_nodes::{
     Argument, DomainExpr, IntFold, Intent, Names, PromotedInt, PromotedTruth, RangeExpr, Spot,
@@ -35,6 +35,7 @@ use dpl_steps::{
     Context, Crew, Team, WholeTurns, domain_indices, promoted_strip, range_indices,
     reduced_int_by_workers, reduced_truth_by_workers, run as run_steps,
 };
+use dpl_workers::forall;
 use std::sync::Wait;
 use std::thread::Threads;
 

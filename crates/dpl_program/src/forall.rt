@@ -15,9 +15,10 @@ use crate::body::Body;
 use crate::changed::Changed;
 use crate::dealt::dealt;
 use dpl_frame::{DomainWord, Frame};
-use dpl_loop::{Gate, RunStop, forall};
+use dpl_loop::{Gate, RunStop};
 use dpl_map::Map;
 use dpl_nodes::{Intent, Names, Step};
+use dpl_workers::forall;
 use std::sync::Wait;
 use std::thread::Threads;
 

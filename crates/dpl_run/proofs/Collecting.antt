@@ -22,8 +22,9 @@ use Rattle.dpl_typer.specs.Shapes.{shape_by}
 use Rattle.dpl_typer.proofs.OperatorKinds.{kind_if-some}
 use Rattle.dpl_typer.specs.Sights.{bound_at, sighted_at, frame_from, sight_of, is_promoted_by, IsKnownScope, AreKnownScopes}
 use Rattle.dpl_typer.proofs.Sights.{HasKnownKind, lookup-known}
-use Rattle.dpl_run.specs.Names.{declared_by, declared_names}
-use Rattle.dpl_run.specs.Leaving.{sighted_in, held_by, held_frame, IsLeft, AreLeft}
+use Rattle.dpl_outcome.specs.Names.{declared_by, declared_names}
+use Rattle.dpl_outcome.specs.Leaving.{held_by, held_frame}
+use Rattle.dpl_run.specs.TopLevel.{sighted_in, IsLeft, AreLeft}
 
 -- the names of a scope, in order
 abbrev names_in : Scope → List Text

@@ -11,7 +11,7 @@ use Rattle.dpl_rules.specs.Loops.{behind}
 use Rattle.dpl_rules.specs.Sights.{Declared, Scopes, find, lookup, add}
 use Rattle.dpl_rules.specs.Sound.{behind_all}
 use Rattle.dpl_runnable.specs.Runnable.{IsRunnableTop, AreRunnableTops}
-use Rattle.dpl_run.specs.Leaving.{IsLeft, AreLeft}
+use Rattle.dpl_run.specs.TopLevel.{IsLeft, AreLeft}
 
 pub top-left : AreLeft top
 top-left = λ x. tt

@@ -10,7 +10,7 @@ use Rattle.dpl_language.specs.Environment.{Limits}
 use Rattle.dpl_says.specs.Says.{IsDataParallel, Means}
 use Rattle.dpl_says.proofs.OneSaying.{IsProgram-one, IsProgram-unrefused}
 use Rattle.dpl_says.proofs.Anywhere.{says}
-use Rattle.dpl_run.specs.declared.outcome.Outcome.{Outcome}
+use Rattle.dpl_outcome.specs.declared.outcome.Outcome.{Outcome}
 use Rattle.dpl_run.specs.Headline.{ending, IsProgram, ComesTo, Says}
 use Rattle.dpl_run.specs.Programs.{Runs}
 use Rattle.dpl_run.proofs.Stages.{program-open}

@@ -16,9 +16,9 @@ use Rattle.dpl_frame.specs.Faults.{fault_view}
 use Rattle.dpl_loop.specs.declared.stop.RunStop.{RunStop}
 use Rattle.dpl_loop.specs.declared.stop.RunStop.TheVariants as stop
 use Rattle.dpl_loop.specs.Runs.{RunsTo, having_printed}
-use Rattle.dpl_run.specs.declared.outcome.Outcome.TheVariants.{Done, Stopped}
-use Rattle.dpl_run.specs.Leaving.{sighted_in}
-use Rattle.dpl_run.specs.Names.{declared_names}
+use Rattle.dpl_outcome.specs.declared.outcome.Outcome.TheVariants.{Done, Stopped}
+use Rattle.dpl_run.specs.TopLevel.{sighted_in}
+use Rattle.dpl_outcome.specs.Names.{declared_names}
 use Rattle.dpl_run.specs.Runs.{RanTo}
 
 -- a run that a gate refused

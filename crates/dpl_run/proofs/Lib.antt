@@ -1,9 +1,5 @@
--- Where a text ends, what a writer took of bytes, and what is left at a program's end.
-pub mod LineEnds
+-- What is left at a program's end.
 pub mod Collecting
-pub mod Taking
-pub mod Empty
-pub mod Dumped
 -- A run of a plan is what its program means.
 pub mod Planned
 pub mod Standing

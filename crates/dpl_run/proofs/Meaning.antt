@@ -40,11 +40,11 @@ use Rattle.dpl_runnable.proofs.Expressions.{variable-cases}
 use Rattle.dpl_typer.specs.Sights.{sight_of, AreKnownScopes}
 use Rattle.dpl_run.specs.Plans.{IsPlan, IsGivenAlike}
 use Rattle.dpl_loop.specs.Runs.{having_printed}
-use Rattle.dpl_run.specs.declared.outcome.Outcome.{Outcome}
-use Rattle.dpl_run.specs.declared.outcome.Outcome.TheVariants.{Done as DoneWith, Stopped, Rejected}
+use Rattle.dpl_outcome.specs.declared.outcome.Outcome.{Outcome}
+use Rattle.dpl_outcome.specs.declared.outcome.Outcome.TheVariants.{Done as DoneWith, Stopped, Rejected}
 use Rattle.dpl_run.specs.Headline.{ending}
-use Rattle.dpl_run.specs.Names.{declared_names}
-use Rattle.dpl_run.specs.Leaving.{sighted_in}
+use Rattle.dpl_outcome.specs.Names.{declared_names}
+use Rattle.dpl_run.specs.TopLevel.{sighted_in}
 use Rattle.dpl_run.specs.Runs.{RanTo}
 use Rattle.dpl_run.proofs.Collecting.{names_in_order-declared}
 

@@ -18,9 +18,9 @@ use Rattle.dpl_language.specs.Names.{Text}
 use Rattle.dpl_spelling.specs.Theorem.{Spells, Refuses}
 use Rattle.dpl_rules.specs.Sound.{refusal}
 use Rattle.dpl_says.specs.Says.{closed_at, refusal_of, Means}
-use Rattle.dpl_run.specs.declared.outcome.Outcome.{Outcome}
+use Rattle.dpl_outcome.specs.declared.outcome.Outcome.{Outcome}
 use Rattle.dpl_run.specs.declared.run.Ended.{Ended}
-use Rattle.dpl_run.specs.declared.refused.Refused.{Refused as RefusedRun}
+use Rattle.dpl_outcome.specs.declared.refused.Refused.{Refused as RefusedRun}
 use Rattle.dpl_run.specs.Headline.{ending, IsProgram, IsRefused, ComesTo}
 use Rattle.dpl_run.specs.Programs.{Runs}
 use Rattle.dpl_run.specs.Refusing.{IsCause, IsRejection}

@@ -10,8 +10,8 @@ use Rattle.dpl_language.specs.Names.{Text}
 use Rattle.dpl_frame.specs.Faults.{fault_view}
 use Rattle.dpl_says.specs.Says as definition
 use Rattle.dpl_says.specs.Says.{Ending, Leaves, Faults, Refused}
-use Rattle.dpl_run.specs.declared.outcome.Outcome.{Outcome}
-use Rattle.dpl_run.specs.declared.outcome.Outcome.TheVariants.{Done, Stopped, Rejected}
+use Rattle.dpl_outcome.specs.declared.outcome.Outcome.{Outcome}
+use Rattle.dpl_outcome.specs.declared.outcome.Outcome.TheVariants.{Done, Stopped, Rejected}
 
 -- the end that an outcome tells
 abbrev pub ending : Outcome → Ending

@@ -1,12 +1,8 @@
--- What a text comes to, what a checked program does, which settings a meaning knows, what it leaves, and how a refused run is told.
+-- What a text comes to, and what a checked program does.
 pub mod Headline
 pub mod Programs
-pub mod Settings
-pub mod Names
-pub mod Leaving
-pub mod Refusals
 -- What serves contracts and proofs alone.
-pub mod Writers
+pub mod TopLevel
 pub mod Runs
 pub mod Plans
 pub mod Elaborated

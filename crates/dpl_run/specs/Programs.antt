@@ -13,7 +13,7 @@ use Rattle.dpl_rules.specs.Sound.{IsSound}
 use Rattle.dpl_rules.specs.Foralls.{all_foralls}
 use Rattle.dpl_rules.specs.Admitted.{AreAdmitted}
 use Rattle.dpl_says.specs.Says.{Ending, Means}
-use Rattle.dpl_run.specs.declared.outcome.Outcome.{Outcome}
+use Rattle.dpl_outcome.specs.declared.outcome.Outcome.{Outcome}
 use Rattle.dpl_run.specs.Headline.{ending}
 
 -- a program, with the words `name=value` that give values to its `config const`s

@@ -5,10 +5,10 @@ use Rattle.dpl_syntax.specs.declared.refusal.Refusal.{Refusal}
 use Rattle.dpl_syntax.specs.declared.stop.Stop.{Stop}
 use Rattle.dpl_syntax.specs.declared.stop.Stop.TheVariants as stage
 use Rattle.dpl_syntax.specs.Lines.{refusal_text}
-use Rattle.dpl_run.specs.declared.outcome.Outcome.{Outcome}
-use Rattle.dpl_run.specs.declared.outcome.Outcome.TheVariants.{Rejected}
-use Rattle.dpl_run.specs.declared.refused.Refused.{Refused}
-use Rattle.dpl_run.specs.declared.refused.Refused.TheVariants as refused
+use Rattle.dpl_outcome.specs.declared.outcome.Outcome.{Outcome}
+use Rattle.dpl_outcome.specs.declared.outcome.Outcome.TheVariants.{Rejected}
+use Rattle.dpl_outcome.specs.declared.refused.Refused.{Refused}
+use Rattle.dpl_outcome.specs.declared.refused.Refused.TheVariants as refused
 use Rattle.dpl_run.specs.Headline.{IsRefused}
 
 -- a refusal is the text's

@@ -10,10 +10,10 @@ use Rattle.dpl_memory.specs.Memory.{Memory}
 use Rattle.dpl_memory.specs.Resolved.{frame_in}
 use Rattle.dpl_frame.specs.Faults.{fault_view}
 use Rattle.dpl_loop.specs.Runs.{having_printed}
-use Rattle.dpl_run.specs.declared.outcome.Outcome.{Outcome}
-use Rattle.dpl_run.specs.declared.outcome.Outcome.TheVariants.{Done, Stopped, Rejected}
-use Rattle.dpl_run.specs.Leaving.{sighted_in}
-use Rattle.dpl_run.specs.Names.{declared_names}
+use Rattle.dpl_outcome.specs.declared.outcome.Outcome.{Outcome}
+use Rattle.dpl_outcome.specs.declared.outcome.Outcome.TheVariants.{Done, Stopped, Rejected}
+use Rattle.dpl_run.specs.TopLevel.{sighted_in}
+use Rattle.dpl_outcome.specs.Names.{declared_names}
 
 abbrev pub RanTo : Scopes → Stmts Text → Meant Memory → Outcome → List ℕ → Type 0
 RanTo scopes ts m (Done left) said = (last : Memory) × (m ≡ DoneAt last (having_printed said no_deeds)) × (left ≡ frame_in last (map (sighted_in scopes) (declared_names ts)))

@@ -7,30 +7,19 @@
 
 mod checked;
 mod checking;
-mod collect;
-mod config;
-mod frame;
-mod left;
-mod lines;
-mod listing;
-mod outcome;
-mod refused;
 mod run;
 mod text;
-mod writer;
 
 pub use checked::Checked;
 pub use checking::{CheckStop, check};
-pub use config::{Config, ConfigFault, MOST_TURNS};
 pub use dpl_contents::ArrayWords;
 pub use dpl_frame::{DomainWord, Fault, FaultCode, RangeWord, Turn};
 pub use dpl_layout::Maps;
 pub use dpl_loop::{Gate, Meeting, OpenGate};
+pub use dpl_outcome::{
+    Config, ConfigFault, Left, MOST_TURNS, Out, OutFault, Outcome, Plain, Refused, Value, Variable,
+    dump, write_all,
+};
 pub use dpl_syntax::{Code, Place, Refusal};
-pub use left::{Left, Value, Variable};
-pub use listing::dump;
-pub use outcome::Outcome;
-pub use refused::Refused;
 pub use run::run_checked;
 pub use text::run_text;
-pub use writer::{Out, OutFault, Plain, write_all};

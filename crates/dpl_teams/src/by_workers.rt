@@ -14,13 +14,14 @@ ghost use Rattle.dpl_values.specs.Teams.{TellsInts, TellsTruths};
 use crate::alone::Alone;
 use dpl_domain::Index;
 use dpl_frame::{Alarm, Frame, Truth, Turn};
-use dpl_loop::{Dealt, Gate, Operator, Row, Strip, reduce_by_workers};
+use dpl_loop::{Gate, Operator, Row, Strip};
 use dpl_nodes::{IntFold, PromotedInt, PromotedTruth, Spot, TruthFold};
 use dpl_strips::promoted_strip;
 use dpl_values::Ints;
 use dpl_values::budget::within_turns;
 use dpl_values::fold::{combined_truths, int_over_none, truth_over_none};
 use dpl_values::promoted::{int_array, operand, promoted_truth_value, truth_array};
+use dpl_workers::{Dealt, reduce_by_workers};
 use std::thread::Threads;
 
 // An operator on truth values, each in a word, since a worker hands back words.

@@ -2,7 +2,7 @@
 use Rattle.std.proofs.Common.{◌≡◌, ℕ, List, map, ap, subst, Err}
 use Rattle.dpl_language.specs.Environment.{Limits}
 use Rattle.dpl_run.specs.Headline.{Says}
-use Rattle.dpl_run.specs.Settings.{limits_of}
+use Rattle.dpl_outcome.specs.Settings.{limits_of}
 use Rattle.dpl_command.specs.Asked.{settings_of}
 use Rattle.dpl_command.proofs.Reading.{IsRunOf-refused}
 use Rattle.dpl_command.proofs.run.run_bytes.Goals as goal

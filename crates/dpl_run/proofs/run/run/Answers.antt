@@ -6,7 +6,7 @@ use Rattle.dpl_tree.specs.Statements.{stmts_of}
 use Rattle.dpl_standing.specs.Standing.{Outside}
 use Rattle.dpl_loop.specs.Entries.{MayRefuseSome}
 use Rattle.dpl_readings.specs.Readings.{steps_in}
-use Rattle.dpl_run.specs.Names.{declared_names}
+use Rattle.dpl_outcome.specs.Names.{declared_names}
 use Rattle.dpl_run.proofs.Collecting.{held-frame}
 use Rattle.dpl_language.specs.Outcome.{no_deeds}
 use Rattle.dpl_run.proofs.Ends.{refused-may, ran-done, ran-stop}

@@ -1,10 +1,10 @@
 -- What is delivered is what the program comes to.
 use Rattle.std.proofs.Common.{◌≡◌, true, subst}
 use Rattle.std.specs.Prelude.{OnErr}
-use Rattle.dpl_run.specs.Writers.{Partly}
+use Rattle.dpl_outcome.specs.Writers.{Partly}
 use Rattle.dpl_run.specs.Elaborated.{program_of}
 use Rattle.dpl_run.specs.Programs.{Runs}
-use Rattle.dpl_run.specs.Settings.{limits_of}
+use Rattle.dpl_outcome.specs.Settings.{limits_of}
 use Rattle.dpl_run.proofs.Stages.{delivered}
 use Rattle.dpl_run.proofs.run.run_checked.Goals as goal
 

@@ -12,10 +12,10 @@ use Rattle.dpl_readings.specs.Readings.{steps_in}
 use Rattle.dpl_readings.proofs.Standing.{steps_in-of}
 use Rattle.dpl_frame.specs.Frames.{Framed}
 use Rattle.dpl_typer.proofs.Names.{if_ok}
-use Rattle.dpl_run.specs.Leaving.{AreLeft}
+use Rattle.dpl_run.specs.TopLevel.{AreLeft}
 use Rattle.dpl_run.specs.Plans.{start_of}
 use Rattle.dpl_run.specs.Runs.{RanTo}
-use Rattle.dpl_run.specs.Settings.{limits_of}
+use Rattle.dpl_outcome.specs.Settings.{limits_of}
 use Rattle.dpl_run.proofs.Declared.{top-left, tops-left}
 use Rattle.dpl_run.proofs.Elsewhere.{runs-anywhere}
 use Rattle.dpl_run.proofs.Meaning.{means-ran}

@@ -2,7 +2,7 @@
 use Rattle.std.proofs.Common.{subst}
 use Rattle.dpl_typer.proofs.Names.{if_ok}
 use Rattle.dpl_run.specs.Programs.{Runs}
-use Rattle.dpl_run.specs.Settings.{limits_of}
+use Rattle.dpl_outcome.specs.Settings.{limits_of}
 use Rattle.dpl_run.proofs.text.run_spelled.Goals as goal
 
 pub returns-clause-runs : goal.returns-clause-runs

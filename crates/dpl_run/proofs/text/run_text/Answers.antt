@@ -1,8 +1,8 @@
 -- What is delivered is what the text comes to, which is a program or has a refusal.
 use Rattle.std.proofs.Common.{◌≡◌, true, map, subst}
 use Rattle.std.specs.Prelude.{OnErr}
-use Rattle.dpl_run.specs.Writers.{Partly}
-use Rattle.dpl_run.specs.Settings.{limits_of}
+use Rattle.dpl_outcome.specs.Writers.{Partly}
+use Rattle.dpl_outcome.specs.Settings.{limits_of}
 use Rattle.dpl_grammar.specs.Classes.{task_words}
 use Rattle.dpl_says.proofs.OneSaying.{is_read}
 use Rattle.dpl_says.proofs.Anywhere.{says}

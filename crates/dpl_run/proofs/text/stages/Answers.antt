@@ -3,7 +3,7 @@ use Rattle.std.proofs.Common.{map, sym, ap, subst, Err}
 use Rattle.std.proofs.lemmas.Result.{err_from_is_err_and}
 use Rattle.dpl_syntax.specs.Text.{Lexes}
 use Rattle.dpl_tree.specs.Statements.{program_view}
-use Rattle.dpl_run.specs.Settings.{limits_of}
+use Rattle.dpl_outcome.specs.Settings.{limits_of}
 use Rattle.dpl_run.proofs.Stages.{lex-stops, parse-stops, if-ran, if-stopped}
 use Rattle.dpl_run.proofs.text.stages.Goals as goal
 

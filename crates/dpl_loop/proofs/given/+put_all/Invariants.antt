@@ -1,6 +1,0 @@
--- Each call has one fewer.
-use Rattle.std.proofs.Common.{length}
-use Rattle.dpl_loop.proofs.given.+put_all.Given as goal
-
-abbrev pub decreases-put_all : goal.decreases-put_all
-decreases-put_all l = length l.worked.now

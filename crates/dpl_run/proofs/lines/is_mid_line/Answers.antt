@@ -1,5 +1,0 @@
-use Rattle.dpl_run.proofs.LineEnds.{line_ended-at}
-use Rattle.dpl_run.proofs.lines.is_mid_line.Goals as goal
-
-pub returns-in-len1-up : goal.returns-in-len1-up
-returns-in-len1-up c = line_ended-at c.args.text.now c.in-len1-up.len_at_least
