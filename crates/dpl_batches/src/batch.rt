@@ -223,6 +223,7 @@ fn branches<'t, A: Arrays>(
         return 0;
     };
     let mut holds = Strip::none(lanes.row);
+    holds.size = size;
     found_truths(condition, lanes, stores, frame, &mut holds);
     let known = size.min(holds.size);
     narrow(lanes.mask, &mut holds);

@@ -98,7 +98,7 @@ fn blend(mask: Option<&[i64; STRIP]>, own: &[i64], strip: &mut Strip)
     }
 }
 
-// Makes a strip what an int comes to in the turns, as their statements find it by now.
+// Makes a strip what an int comes to in the turns, as their statements find it by now. So many as its size says before are wanted.
 fn found_ints<'t, A: Arrays>(
     e: &IntExpr<'t>,
     lanes: &Lanes<'_, '_, 't>,
@@ -163,7 +163,8 @@ fn element_place<'t, A: Arrays>(
     }
 }
 
-// An assignment to an element that is an int. This many turns have been found; it answers how many are by now.
+// An assignment to an element that is an int. This many turns have been found; it answers how many are by now. Words are wanted where they lie
+// side by side alone, as the elements' own words do.
 fn ints<'t, A: Arrays>(
     step: &Step<'t>,
     lanes: &Lanes<'_, '_, 't>,
@@ -185,6 +186,7 @@ fn ints<'t, A: Arrays>(
     let Some(i) = element_place(name.slot, index, lanes, frame, stores) else {
         return 0;
     };
+    strip.size = 0;
     found_ints(e, lanes, stores, frame, strip);
     let own = own_words(&stores[i], frame);
     combine(*op, own, strip);
@@ -218,6 +220,7 @@ fn truths<'t, A: Arrays>(
     let Some(i) = element_place(name.slot, index, lanes, frame, stores) else {
         return 0;
     };
+    strip.size = 0;
     found_truths(e, lanes, stores, frame, strip);
     blend(lanes.mask, own_words(&stores[i], frame), strip);
     stores[i].put(&strip.words);
@@ -252,6 +255,7 @@ fn folds<'t, A: Arrays>(
     if stores[i].is_made || !frame.has_number(*slot) {
         return 0;
     }
+    strip.size = size;
     found_ints(e, lanes, stores, frame, strip);
     let all = [1; STRIP];
     stores[i].fold(fold, mask_or(lanes.mask, &all), &strip.words);

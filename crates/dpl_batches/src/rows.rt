@@ -9,10 +9,10 @@ ghost use Rattle.dpl_elements.specs.Turns.{index_turn};
 use crate::batch::{made, make_batch};
 use crate::store::{Store, begin_again};
 use crate::turn::{assign_row, fold_row, truth_row};
-use dpl_elements::rest_of;
 use dpl_frame::{Arrays, Frame};
 use dpl_loop::{Row, Strip};
 use dpl_nodes::{Names, Step, TruthTarget};
+use dpl_strips::rest_of;
 use std::alloc::AllocError;
 
 // Makes turns of a row's first indices, as many as a strip has and at most so many; how many. A body of one assignment to an element, or of

@@ -9,11 +9,10 @@ ghost use Rattle.dpl_batches.specs.Stores.{unmade, by_now, stored_in_turns, each
 
 use crate::fold::folded_where;
 use crate::turn::{behind, has_room, is_variable};
-use dpl_elements::rest_of;
 use dpl_frame::{Arrays, Frame};
 use dpl_loop::{Row, STRIP};
 use dpl_nodes::{IntFold, Names};
-use dpl_strips::Target;
+use dpl_strips::{Target, rest_of};
 use std::alloc::AllocError;
 
 /// The most variables that the turns of a row write.

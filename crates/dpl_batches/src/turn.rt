@@ -103,6 +103,7 @@ pub(crate) fn assign_row<'t, A: Arrays>(
         words: None,
     }];
     strip.row = row;
+    strip.size = most.min(STRIP);
     turn_ints(e, names, &targets, frame, strip);
     let made = put_row(name, *op, sign, at, strip, most, frame);
     if made > 0 {
@@ -144,6 +145,7 @@ pub(crate) fn truth_row<'t, A: Arrays>(
         words: None,
     }];
     strip.row = row;
+    strip.size = most.min(STRIP);
     turn_truths(e, names, &targets, frame, strip);
     let made = put_row(name, Assign::Set, name.at, at, strip, most, frame);
     if made > 0 {
@@ -194,6 +196,7 @@ pub(crate) fn fold_row<'t, A: Arrays>(
         words: None,
     }];
     strip.row = row;
+    strip.size = most.min(STRIP);
     turn_ints(e, names, &targets, frame, strip);
     let made = strip.size.min(most).min(STRIP);
     if made > 0 {

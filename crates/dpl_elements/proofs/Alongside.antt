@@ -75,7 +75,7 @@ still t u w (i ∷ is) (v ∷ ws) =
 pub held-elsewhere : (t u : Index) (w : ℤ) (a : Held) → same_index u t ≡ false → held_at u (held_with t w a) ≡ held_at u a
 held-elsewhere t u w a other = elsewhere t u w a.keys a.words other
 
-held-still : (t u : Index) (w : ℤ) (a : Held) → is_some (held_at u (held_with t w a)) ≡ is_some (held_at u a)
+pub held-still : (t u : Index) (w : ℤ) (a : Held) → is_some (held_at u (held_with t w a)) ≡ is_some (held_at u a)
 held-still t u w a = still t u w a.keys a.words
 
 -- SIDE BY SIDE

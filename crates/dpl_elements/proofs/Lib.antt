@@ -6,5 +6,6 @@ pub mod Alongside
 pub mod PutRows
 pub mod BoundAgain
 pub mod RowTurns
+pub mod PutAlong
 pub mod Wholes
 pub mod Branching

@@ -1,13 +1,9 @@
 -- Turns whose ints, or truth values, go into elements side by side: the body of each is one assignment to an element.
 -- In each turn the variables hold its index, and the arrays are as the turns before have left them.
-use Rattle.std.proofs.Common.{◌≡◌, ◌<◌, ◌≤◌, ◌+◌, ◌-◌, ◌*◌, ⊎_elim, ℕ, zero, suc, ℤ, pos, negsuc, ◌+ℤ◌, ◌*ℤ◌, false, List, [], ◌∷◌, length, get_or, None, Ok, refl, sym, subst, ap, ◌∙◌, mul-add, arith}
+use Rattle.std.proofs.Common.{◌≡◌, ◌<◌, ◌≤◌, ◌+◌, ◌-◌, ⊎_elim, ℕ, zero, suc, pos, false, List, get_or, None, Ok, refl, sym, subst, ap, ◌∙◌, arith}
 use Rattle.std.proofs.lemmas.Bool.{cases_lt}
-use Rattle.std.proofs.lemmas.Int.{ints}
-use Rattle.std.proofs.Math.IntN.{*ℤ-zero, pos-*ℤ-pos, negsuc-*ℤ-pos}
 use Rattle.dpl_syntax.specs.declared.place.Place.{Place}
-use Rattle.dpl_domain.specs.Ranks.{last_of}
-use Rattle.dpl_array.specs.Elements.{Row, along, behind}
-use Rattle.dpl_array.proofs.Behind.{last-along}
+use Rattle.dpl_array.specs.Elements.{Row, behind}
 use Rattle.dpl_language.specs.Tree.{Assign, AssignTree, Set, IntKind, BoolKind, StmtTree, NoStmts, Then}
 use Rattle.dpl_language.specs.Values.{Value, Int, Truth, Index}
 use Rattle.dpl_language.specs.Arithmetic.{assigned, assign_divides}
@@ -30,6 +26,7 @@ use Rattle.dpl_loop.specs.declared.strip.Strip.{Strip}
 use Rattle.dpl_loop.specs.Runs.{AreDone}
 use Rattle.dpl_strips.specs.Strips.{IsSameAt, one_written, IsInTurn, IsInOwnTurn, HoldsInTurns, GoesFrom}
 use Rattle.dpl_strips.specs.Truths.{TruthsHoldInTurns}
+use Rattle.dpl_strips.proofs.RowParts.{behind-more}
 use Rattle.dpl_elements.specs.Changes.{signed, ends_as, put_memory}
 use Rattle.dpl_elements.specs.Rows.{ArePut}
 use Rattle.dpl_elements.specs.Turns.{bound_at, index_turn}
@@ -40,51 +37,7 @@ use Rattle.dpl_elements.proofs.Elements.{exec-element, change-put}
 pub none-done : (turn : Index → Run Memory) (t : Row) (s : Memory) → AreDone turn t 0 s s
 none-done turn t s = record { between = λ k. s; begins = refl; ends = refl; each = λ k below done. absurd (omega (arith, below)) }
 
--- A ROW IN PARTS: the index so many behind its first, by the coordinates
-pub behind-at : (row : Row) (k : ℕ) (x y z : ℤ) (n : ℕ) → row.first ≡ last_of (length row.first) x y z → length row.first ≡ n → last_of n x y (z +ℤ row.step *ℤ pos k) ≡ behind k row
-behind-at row k x y z n coordinates long =
-    last-along (row.step *ℤ pos k) n x y (z +ℤ row.step *ℤ pos k) z refl
-    ∙ ap (along (row.step *ℤ pos k)) (sym (coordinates ∙ ap (λ n. last_of n x y z) long))
-
--- its first turns, and those of the rest of it behind them
-along-none : (d : ℤ) (is : List ℤ) → d ≡ pos 0 → along d is ≡ is
-along-none d [] none = refl
-along-none d (i ∷ []) none = ap (λ n. n ∷ []) (ap (λ d. i +ℤ d) none ∙ omega (arith, ints))
-along-none d (i ∷ j ∷ is) none = ap (λ js. i ∷ js) (along-none d (j ∷ is) none)
-
-times-sum : (s : ℤ) (a j : ℕ) → s *ℤ pos (a + j) ≡ s *ℤ pos a +ℤ s *ℤ pos j
-times-sum (pos s) a j =
-    let sum : s * (a + j) ≡ s * a + s * j = mul-add s a j in
-    omega (arith, ints, sum, pos-*ℤ-pos s (a + j), pos-*ℤ-pos s a, pos-*ℤ-pos s j)
-times-sum (negsuc s) a j =
-    let sum : suc s * (a + j) ≡ suc s * a + suc s * j = mul-add (suc s) a j in
-    omega (arith, ints, sum, negsuc-*ℤ-pos s (a + j), negsuc-*ℤ-pos s a, negsuc-*ℤ-pos s j)
-
-along-again : (d e : ℤ) (is : List ℤ) → along d (along e is) ≡ along (e +ℤ d) is
-along-again d e [] = refl
-along-again d e (i ∷ []) = ap (λ n. n ∷ []) (omega (arith, ints))
-along-again d e (i ∷ j ∷ []) = ap (λ js. i ∷ js) (along-again d e (j ∷ []))
-along-again d e (i ∷ j ∷ k ∷ is) = ap (λ js. i ∷ js) (along-again d e (j ∷ k ∷ is))
-
-behind-none : (row : Row) → behind 0 row ≡ row.first
-behind-none row = along-none (row.step *ℤ pos 0) row.first (*ℤ-zero row.step)
-
-behind-more : (row : Row) (a j : ℕ) → behind j (record { first = behind a row; step = row.step }) ≡ behind (a + j) row
-behind-more row a j =
-    along-again (row.step *ℤ pos j) (row.step *ℤ pos a) row.first
-    ∙ ap (λ d. along d row.first) (sym (times-sum row.step a j))
-
--- the rest of a row's rest
-pub rest-again : (row here rest : Row) (a b : ℕ) → here ≡ record { first = behind a row; step = row.step } → rest ≡ record { first = behind b here; step = here.step }
-    → rest ≡ record { first = behind (a + b) row; step = row.step }
-rest-again row here rest a b here_is rest_is =
-    rest_is
-    ∙ ap (λ (t : Row). record { first = behind b t; step = t.step }) here_is
-    ∙ ap {A = List ℤ} {B = Row} (λ first. record { first = first; step = row.step }) (behind-more row a b)
-
-pub whole-rest : (row : Row) → row ≡ record { first = behind 0 row; step = row.step }
-whole-rest row = ap {A = List ℤ} {B = Row} (λ first. record { first = first; step = row.step }) (sym (behind-none row))
-
+-- A ROW IN PARTS: its first turns, and those of the rest of it behind them
 -- what stands between the first turns and those behind them
 abbrev joined : ℕ → (ℕ → Memory) → (ℕ → Memory) → ℕ → Memory
 joined zero f g k = g k

@@ -27,14 +27,14 @@ ghost use Rattle.dpl_elements.specs.Wholes.{filled, promoted, whole_turn};
 use crate::apart::whole_apart;
 use crate::crew::Crew;
 use crate::element::{change, change_truth};
-use crate::row::{put_row, rest_of};
+use crate::row::put_row;
 use dpl_arithmetic::index::coordinate;
 use dpl_dependence::{int_reads_own, truth_reads_own};
 use dpl_domain::Index;
 use dpl_frame::{Arrays, DomainWord, Frame};
-use dpl_loop::{Apart, OpenGate, Row, RunStop, Strip, Turns};
+use dpl_loop::{Apart, OpenGate, Row, RunStop, STRIP, Strip, Turns};
 use dpl_nodes::{ArrayName, PromotedInt, PromotedTruth, Spot};
-use dpl_strips::{promoted_ints, repeat};
+use dpl_strips::{promoted_ints, repeat, rest_of};
 use dpl_teams::Alone;
 use dpl_tree::Assign;
 use dpl_values::budget::within_budget;
@@ -110,6 +110,7 @@ impl<'e, 'x> Promote<'e, 'x> {
         ensures limits { frame.new.limits ≡ frame.old.limits }
     {
         strip.row = row;
+        strip.size = most.min(STRIP);
         promoted_ints(self.e, frame, strip);
         put_row(self.name, self.op, self.sign, row, strip, most, frame)
     }

@@ -2,3 +2,4 @@ pub mod Strips
 pub mod Paces
 pub mod Truths
 pub mod Targets
+pub mod RowParts

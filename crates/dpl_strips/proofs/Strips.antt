@@ -2,6 +2,7 @@
 use Rattle.std.proofs.Common.{◌≡◌, ◌≢◌, Bool, true, false, int_div, int_rem, ◌<◌, ◌≤◌, ◌+◌, ℕ, zero, suc, ℤ, pos, List, [], ◌∷◌, length, get_or, set, take, replicate, Option, Some, None, Result, Ok, Err, option_map, arith, refl, sym, subst, ap, ◌∙◌, ◌⊎◌, ⊎_elim, inl, inr}
 use Rattle.std.specs.Ordering.{int_eq}
 use Rattle.std.proofs.lemmas.List.{get_or-set_same, get_or-set_other, get_or-take}
+use Rattle.std.proofs.lemmas.Bool.{cases_lt}
 use Rattle.std.proofs.lemmas.Bool.Decides.{Decides-int_eq}
 use Rattle.dpl_syntax.specs.declared.place.Place.{Place}
 use Rattle.dpl_language.specs.Arithmetic.{wrap}
@@ -33,6 +34,17 @@ written Fits ws k w within before now j below =
     last zero (suc k) below = inl (omega arith)
     last (suc j) zero below = absurd (omega (arith, below))
     last (suc j) (suc k) below = ⊎_elim (λ (l : j < k). inl (omega (arith, l))) (λ (e : j ≡ k). inr (omega (arith, e))) (last j k (omega (arith, below)))
+
+-- and so behind some words
+pub written-behind : (Fits : ℕ → ℤ → Type 0) (ws : List ℤ) (size k : ℕ) (w : ℤ) → size + k < length ws → ((j : ℕ) → j < k → Fits j (get_or ws (size + j) (pos 0))) → Fits k w
+    → (j : ℕ) → j < k + 1 → Fits j (get_or (set ws (size + k) w) (size + j) (pos 0))
+written-behind Fits ws size k w within before now j below =
+    ⊎_elim
+    (λ (less : j < k). subst (Fits j) (sym (get_or-set_other ws (size + k) (size + j) w (pos 0) (λ is. omega (arith, less, is)))) (before j less))
+    (λ (more : k ≤ j).
+    let same : j ≡ k = omega (arith, below, more) in
+    subst (λ i. Fits i (get_or (set ws (size + k) w) (size + i) (pos 0))) (sym same) (subst (Fits k) (sym (get_or-set_same ws (size + k) w (pos 0) within)) now))
+    (cases_lt j k)
 
 -- one word everywhere
 pub repeated : (n k : ℕ) (w : ℤ) → k < n → get_or (replicate n w) k (pos 0) ≡ w

@@ -1,13 +1,15 @@
 -- What is made of the words of truth values, or of ints, is the word of the whole's truth value.
 -- Each lemma has the word that is made on its right side.
-use Rattle.std.proofs.Common.{◌≡◌, ◌<◌, ◌≤◌, ℕ, ℤ, pos, Bool, true, false, List, length, get_or, take, Option, Result, Ok, refl, sym, subst, ap, ◌∙◌, arith}
+use Rattle.std.proofs.Common.{◌≡◌, ◌<◌, ◌≤◌, ℕ, ℤ, pos, Bool, true, false, List, length, get_or, take, Option, Some, Result, Ok, refl, sym, subst, ap, ◌∙◌, arith}
 use Rattle.std.proofs.lemmas.List.{get_or-take}
-use Rattle.dpl_language.specs.Tree.{ExprTree}
+use Rattle.std.proofs.lemmas.Option.{slice_get-get_or, slice_get_within, get_or_from_slice_get}
+use Rattle.dpl_array.specs.Elements.{Row, behind}
+use Rattle.dpl_language.specs.Tree.{Kind, ExprTree}
 use Rattle.dpl_language.specs.Values.{Value, Fault, Index, Int, Truth, kept_number}
 use Rattle.dpl_language.specs.Expressions.{value_of}
 use Rattle.dpl_language.specs.Environment.{Limits}
 use Rattle.dpl_lowered.specs.Shapes.{nowhere, two}
-use Rattle.dpl_memory.specs.Memory.{Variable, Memory, in_memory}
+use Rattle.dpl_memory.specs.Memory.{Variable, Memory, array_at, held_at, element_as, in_memory}
 use Rattle.dpl_nodes.specs.declared.tree.Comparison.{Comparison}
 use Rattle.dpl_nodes.specs.declared.tree.Comparison.TheVariants as comparison
 use Rattle.dpl_nodes.specs.declared.step.Names.{Names}
@@ -15,8 +17,10 @@ use Rattle.dpl_nodes.specs.Typed.{comparison_view}
 use Rattle.dpl_loop.specs.declared.strip.Strip.{Strip}
 use Rattle.dpl_strips.specs.declared.truth_strips.Junction.{Junction}
 use Rattle.dpl_strips.specs.declared.truth_strips.Junction.TheVariants as junction
+use Rattle.dpl_strips.specs.declared.along.Found.{Found}
+use Rattle.dpl_strips.specs.declared.along.Found.TheVariants as found
 use Rattle.dpl_strips.specs.Strips.{Written, IsInOwnTurn, HoldsInTurns}
-use Rattle.dpl_strips.specs.Truths.{TruthsHoldInTurns, junction_view, joins, compares}
+use Rattle.dpl_strips.specs.Truths.{TruthsHoldInTurns, RowInTurns, IsFoundAlong, IsWordOf, FoundInTurns, junction_view, joins, compares}
 use Rattle.dpl_strips.proofs.Strips.{take-few}
 
 module _ (limits : Limits) (t : Option Index) (u : Memory) where
@@ -39,6 +43,29 @@ module _ (limits : Limits) (t : Option Index) (u : Memory) where
   compared-at comparison.AtMost a b x y left right = rw left (rw right refl)
   compared-at comparison.Greater a b x y left right = rw left (rw right refl)
   compared-at comparison.AtLeast a b x y left right = rw left (rw right refl)
+
+-- WHAT IS FOUND OF AN ARRAY ALONG A ROW: its words stand there
+pub word-along : (slot : ℕ) (at : Row) (s : Memory) (k : ℕ) (word : ℤ) (f : Found) → IsFoundAlong slot at s f → IsWordOf slot s k word f
+    → held_at (behind k at) (array_at slot s) ≡ Some word
+word-along slot at s k word (found.Words ws) is there = is k word there
+word-along slot at s k word (found.Along t) is there = ap (λ t. held_at (behind k t) (array_at slot s)) (sym is) ∙ there
+
+-- they are the elements that are meant in turns, where those along the row are
+module _ (names : Names) (xs : List Written) (meaning : Memory → Result Value Fault) (kind : Kind) (slot : ℕ) (row : Row) (s : Memory) where
+  pub found-in-turns : (at : Row) (f : Found) → IsFoundAlong slot at s f → RowInTurns names xs meaning kind slot row s at
+      → FoundInTurns names xs meaning kind slot row s f
+  found-in-turns at (found.Words ws) is holds =
+      λ k below few u turn.
+      let word = get_or ws.now k (pos 0) in
+      holds k word few (is k word (slice_get-get_or ws.now k (pos 0) below)) u turn
+  found-in-turns at (found.Along t) is holds = subst (RowInTurns names xs meaning kind slot row s) (sym is) holds
+
+  -- and so is each of them
+  pub word-in-turns : (k : ℕ) (word : ℤ) (f : Found) → k < 64 → FoundInTurns names xs meaning kind slot row s f → IsWordOf slot s k word f
+      → (u : Memory) → IsInOwnTurn names xs row k s u → meaning u ≡ Ok (element_as kind word)
+  word-in-turns k word (found.Words ws) few holds there u turn =
+      holds k (slice_get_within ws.now k word there) few u turn ∙ ap (λ w. Ok (element_as kind w)) (get_or_from_slice_get ws.now k word (pos 0) there)
+  word-in-turns k word (found.Along at) few holds there u turn = holds k word few there u turn
 
 -- the words of a strip that are made of those of two, of which the right one's first so many are taken
 module _

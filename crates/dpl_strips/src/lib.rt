@@ -6,6 +6,7 @@
 // `IsInOwnTurn`). What statements of the same turns have made of such an element is read in place of what the array has (`Target`).
 #![tactic(auto)]
 
+mod along;
 mod apply;
 mod pace;
 mod strip;
@@ -14,6 +15,7 @@ mod truth;
 mod truth_strips;
 mod turn_strips;
 
+pub use along::{gather, rest_of};
 pub use apply::repeat;
 pub use strip::{promoted_ints, promoted_strip};
 pub use target::{Target, is_written};

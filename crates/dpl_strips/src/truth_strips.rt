@@ -13,7 +13,8 @@ ghost use Rattle.dpl_nodes.specs.Typed.{array_named, in_square, index_items, int
 ghost use Rattle.dpl_strips.specs.Strips.{written};
 ghost use Rattle.dpl_strips.specs.Truths.{TruthsHoldInTurns, junction_view, joins, compares};
 
-use crate::apply::{copy, each, repeat, with_words};
+use crate::along::take;
+use crate::apply::{each, repeat, with_words};
 use crate::pace::steady;
 use crate::target::Target;
 use crate::truth::{
@@ -117,9 +118,9 @@ fn element<A: Arrays>(
     ensures values { (at : Place) → TruthsHoldInTurns names.now (map written targets.now) (λ u. value_of frame.now.limits in_memory
         (in_square (array_named BoolKind slot at) (index_items index.now)) None u) frame.now.memory strip.new }
 {
-    match elements(slot, index, names, targets, strip.row, frame) {
-        Some(words) => {
-            copy(strip, words);
+    match elements(slot, index, names, targets, strip.row, strip.size, frame) {
+        Some(found) => {
+            take(strip, slot, found, frame);
             settle(strip);
         }
         None => strip.size = 0,
@@ -160,8 +161,10 @@ fn joined<A: Arrays>(
     ensures values { TruthsHoldInTurns names.now (map written targets.now) (λ u. value_of frame.now.limits in_memory
         (two (truth_view a.now) nowhere (junction_view op) (truth_view b.now)) None u) frame.now.memory strip.new }
 {
+    let wanted = strip.size;
     let mut right = Strip::none(strip.row);
     turn_truths(a, names, targets, frame, strip);
+    right.size = strip.size.min(wanted);
     turn_truths(b, names, targets, frame, &mut right);
     let size = right.size.min(STRIP);
     join(op, strip, &right.words[..size]);
@@ -182,15 +185,17 @@ fn compared<A: Arrays>(
     ensures values { TruthsHoldInTurns names.now (map written targets.now) (λ u. value_of frame.now.limits in_memory
         (two (int_view a.now) nowhere (comparison_view c) (int_view b.now)) None u) frame.now.memory strip.new }
 {
+    let wanted = strip.size;
     let mut right = Strip::none(strip.row);
     turn_ints(a, names, targets, frame, strip);
+    right.size = strip.size.min(wanted);
     turn_ints(b, names, targets, frame, &mut right);
     let size = right.size.min(STRIP);
     compare(c, strip, &right.words[..size]);
 }
 
 /// Makes a strip the words of the truth values of an expression in the turns of its row's indices, as far as they are found at once. There may
-/// be none. What the turns may write is as for [`turn_ints`].
+/// be none. What the turns may write, and how many are wanted, is as for [`turn_ints`].
 #[cycle(truths)]
 pub fn turn_truths<A: Arrays>(
     e: &BoolExpr<'_>,

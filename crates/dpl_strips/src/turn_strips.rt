@@ -1,5 +1,6 @@
 // The ints of an expression in several turns of a loop at once, and where the elements lie that these turns find.
-// What is read is read before the turns, and so of what they write only the elements that a turn writes itself. Strips are made as in strip.rt.
+// What is read is read before the turns, and so of what they write only the elements that a turn writes itself. Strips are made as in strip.rt:
+// how many ints are wanted is what a strip's size says before, and they go on where an array's piece ends.
 
 ghost use Rattle.std.specs.Prelude.{◌≡◌, ◌<◌, ℕ, pos, ◌+ℤ◌, ◌*ℤ◌, IsTrue, None, map, get_or, length, IfSome};
 ghost use Rattle.dpl_syntax.specs.declared.place.Place.{Place};
@@ -11,9 +12,10 @@ ghost use Rattle.dpl_memory.specs.Memory.{in_memory};
 ghost use Rattle.dpl_nodes.specs.declared.tree.IndexExpr.{Tuple as TupleIndex};
 ghost use Rattle.dpl_nodes.specs.Typed.{array_named, in_square, index_items, int_view};
 ghost use Rattle.dpl_strips.specs.Strips.{paced, FitsTurns, written, IsInOwnTurn, HoldsInTurns, RightHolds, GoesFrom, infix_of};
-ghost use Rattle.dpl_strips.specs.Truths.{ElementsInTurns};
+ghost use Rattle.dpl_strips.specs.Truths.{FoundInTurns};
 
-use crate::apply::{Right, Wrapping, apply, copy, divide, leave, negate, repeat};
+use crate::along::{Found, found_along, take};
+use crate::apply::{Right, Wrapping, apply, divide, leave, negate, repeat};
 use crate::pace::{Pace, first_step, pace_of, steady};
 use crate::target::{Target, target_at};
 use dpl_arithmetic::index::{coordinate, plane, space};
@@ -132,38 +134,40 @@ pub fn is_same(a: Row, b: Row) -> bool
     true
 }
 
-/// The elements of an array that the turns find, where they lie side by side and no other turn writes them; those that a turn writes itself
-/// are what statements of it have made of them. They are told as words, whatever the array's kind.
+/// The elements of an array that the turns find, where no other turn writes them; those that a turn writes itself are what statements of it have
+/// made of them. They are told as words, whatever the array's kind; so many are wanted.
 pub(crate) fn elements<'f, A: Arrays>(
     slot: usize,
     index: &IndexExpr<'_>,
     names: &Names<'_>,
     targets: &[Target<'f>],
     row: Row,
+    wanted: usize,
     frame: &'f Frame<A>,
-) -> Option<&'f [i64]>
-    ensures { (kind : Kind) (at : Place) → IfSome result (λ words. ElementsInTurns names.now (map written targets.now)
-        (value_of frame.now.limits in_memory (in_square (array_named kind slot at) (index_items index.now)) None) kind row frame.now.memory words.now) }
+) -> Option<Found<'f>>
+    ensures { (kind : Kind) (at : Place) → IfSome result (FoundInTurns names.now (map written targets.now)
+        (value_of frame.now.limits in_memory (in_square (array_named kind slot at) (index_items index.now)) None) kind slot row frame.now.memory) }
 {
     let at = turn_row(index, names, targets, row, frame)?;
     let Some(target) = target_at(targets, slot) else {
-        return Some(frame.run(slot, at));
+        return Some(found_along(slot, at, wanted, frame));
     };
     if !is_same(at, target.at) {
         return None;
     }
     match target.words {
-        Some(words) => Some(words),
-        None => Some(frame.run(slot, at)),
+        Some(words) => Some(Found::Words(words)),
+        None => Some(found_along(slot, at, wanted, frame)),
     }
 }
 
-// A right side that needs no strip.
+// A right side that needs no strip. So many words are wanted; where fewer lie side by side, it needs one.
 fn right_of<'f, A: Arrays>(
     e: &IntExpr<'_>,
     names: &Names<'_>,
     targets: &[Target<'f>],
     row: Row,
+    wanted: usize,
     frame: &'f Frame<A>,
 ) -> Option<Right<'f>>
     ensures { IfSome result (RightHolds (λ row k u. IsInOwnTurn names.now (map written targets.now) row k frame.now.memory u)
@@ -171,9 +175,9 @@ fn right_of<'f, A: Arrays>(
 {
     match e {
         IntExpr::Element(slot, index, _) => {
-            match elements(*slot, index, names, targets, row, frame) {
-                Some(words) => Some(Right::Words(words)),
-                None => None,
+            match elements(*slot, index, names, targets, row, wanted, frame) {
+                Some(Found::Words(words)) => Some(Right::Words(words)),
+                _ => None,
             }
         }
         _ => match steady(e, names, targets, row, frame) {
@@ -214,8 +218,8 @@ fn element<A: Arrays>(
     ensures values { (at : Place) → HoldsInTurns names.now (map written targets.now) (λ u. value_of frame.now.limits in_memory
         (in_square (array_named IntKind slot at) (index_items index.now)) None u) frame.now.memory strip.new }
 {
-    match elements(slot, index, names, targets, strip.row, frame) {
-        Some(words) => copy(strip, words),
+    match elements(slot, index, names, targets, strip.row, strip.size, frame) {
+        Some(found) => take(strip, slot, found, frame),
         None => strip.size = 0,
     }
 }
@@ -254,8 +258,10 @@ fn of_two<A: Arrays>(
     ensures values { HoldsInTurns names.now (map written targets.now) (λ u. value_of frame.now.limits in_memory
         (two (int_view a.now) nowhere (infix_of op) (int_view b.now)) None u) frame.now.memory strip.new }
 {
+    let wanted = strip.size;
     let mut right = Strip::none(strip.row);
     turn_ints(a, names, targets, frame, strip);
+    right.size = strip.size.min(wanted);
     turn_ints(b, names, targets, frame, &mut right);
     let size = right.size.min(STRIP);
     apply(op, strip, Right::Words(&right.words[..size]));
@@ -277,7 +283,7 @@ fn both<A: Arrays>(
     ensures values { HoldsInTurns names.now (map written targets.now) (λ u. value_of frame.now.limits in_memory
         (two (int_view a.now) nowhere (infix_of op) (int_view b.now)) None u) frame.now.memory strip.new }
 {
-    let Some(right) = right_of(b, names, &*targets, strip.row, &*frame) else {
+    let Some(right) = right_of(b, names, &*targets, strip.row, strip.size, &*frame) else {
         of_two(op, a, b, names, targets, frame, strip);
         return;
     };
@@ -335,7 +341,7 @@ fn remainders<A: Arrays>(
 
 /// Makes a strip the ints of an expression in the turns of its row's indices, as far as they are found at once. There may be none. The turns
 /// may write the words in some slots, which are not read here, or elements of the arrays in them, of which each turn reads no other than it
-/// writes.
+/// writes. So many as the strip's size says before are wanted: where fewer elements lie side by side, they are gathered from several pieces.
 #[cycle(turns)]
 pub fn turn_ints<A: Arrays>(
     e: &IntExpr<'_>,

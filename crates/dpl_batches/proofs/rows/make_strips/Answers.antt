@@ -5,7 +5,8 @@ use Rattle.dpl_language.specs.Environment.{Limits}
 use Rattle.dpl_readings.specs.Readings.{steps_in}
 use Rattle.dpl_loop.specs.Runs.{AreDone}
 use Rattle.dpl_elements.specs.Turns.{index_turn}
-use Rattle.dpl_elements.proofs.RowTurns.{none-done, rest-again, rest-done, whole-rest}
+use Rattle.dpl_strips.proofs.RowParts.{rest-again, whole-rest}
+use Rattle.dpl_elements.proofs.RowTurns.{none-done, rest-done}
 use Rattle.dpl_batches.proofs.rows.make_strips.Goals as goal
 
 pub loop-all-init : goal.loop-all-init

@@ -4,7 +4,8 @@ use Rattle.std.proofs.Common.{refl, subst, ◌∙◌, arith}
 use Rattle.dpl_language.specs.Environment.{Limits}
 use Rattle.dpl_loop.specs.Runs.{AreDone}
 use Rattle.dpl_elements.specs.Wholes.{whole_turn}
-use Rattle.dpl_elements.proofs.RowTurns.{none-done, rest-again, rest-done, whole-rest}
+use Rattle.dpl_strips.proofs.RowParts.{rest-again, whole-rest}
+use Rattle.dpl_elements.proofs.RowTurns.{none-done, rest-done}
 use Rattle.dpl_elements.proofs.whole.WholeTurnsTurns.make_row.Goals as goal
 
 pub loop-made-init : goal.loop-made-init

@@ -4,8 +4,8 @@ use Rattle.std.proofs.Common.{◌≡◌, ℤ, pos, ◌+ℤ◌, ◌*ℤ◌, List,
 use Rattle.std.proofs.lemmas.Int.{to_z-of_z}
 use Rattle.dpl_domain.specs.Ranks.{last_of}
 use Rattle.dpl_array.specs.Elements.{Row}
-use Rattle.dpl_elements.proofs.RowTurns.{behind-at}
-use Rattle.dpl_elements.proofs.row.rest_of.Goals as goal
+use Rattle.dpl_strips.proofs.RowParts.{behind-at}
+use Rattle.dpl_strips.proofs.along.rest_of.Goals as goal
 
 pub returns-in_default-rank : goal.returns-in_default-rank
 returns-in_default-rank c =
