@@ -1,0 +1,2 @@
+-- What serves contracts and proofs alone.
+pub mod Parts
