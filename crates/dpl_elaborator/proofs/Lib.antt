@@ -1,0 +1,5 @@
+pub mod Steps
+pub mod Chains
+pub mod Bases
+pub mod Behind
+pub mod Listed

@@ -1,0 +1,4 @@
+-- What serves contracts and proofs alone.
+pub mod Forms
+pub mod Built
+pub mod SoFar
