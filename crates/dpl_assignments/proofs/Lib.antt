@@ -1,0 +1,10 @@
+pub mod Reduced
+pub mod Sides
+pub mod FoundArrays
+pub mod Unbroken
+pub mod Fitting
+pub mod Trees
+pub mod Judged
+pub mod Indexing
+pub mod Steps
+pub mod Domains

@@ -1,0 +1,68 @@
+-- Right sides that read cells: a cell's read is all that stands behind a name, and no simple item is one.
+-- Each lemma is stated of a part of an expression.
+use Rattle.std.proofs.Common.{◌≡◌, ◌≤◌, false, List, [], ◌∷◌, length, Option, Some, None, is_some, Result, Ok, Err, refl, sym, ap, ◌∙◌, arith}
+use Rattle.std.specs.Prelude.{IfOk}
+use Rattle.dpl_language.specs.Tree.{Placed, Kind, ExprTree, Number, TruthWord, Named, LocalesWord, LocaleCount, HereWord, Grouped, DomainLiteral, Prefixed, Reduced, Chain, Postfixed, ItemTree, One, RangeItem, Posts, NoPosts, Post, PostTree, Brackets, Rounds, Dotted, MethodTree, Plainly, Dim, Contains, Expand, CellRead}
+use Rattle.dpl_language.specs.Names.{Text}
+use Rattle.dpl_language.specs.Phrases.{method_read, post_read, posts_read, bare_name, read_by, cell_read, item_read}
+use Rattle.dpl_tree.specs.declared.expression.Post.{Post as PostNode}
+use Rattle.dpl_tree.specs.View.{posts_of}
+use Rattle.dpl_rules.specs.Sights.{Scopes}
+use Rattle.dpl_rules.specs.Expressions.{kind_read}
+use Rattle.dpl_typed.specs.Leaves.{IsFound}
+use Rattle.dpl_typed.specs.Where.{WhereSimpleItem}
+use Rattle.dpl_typed.specs.Simple.{IsSimple, IsSimpleItem, AreSimplePosts, IsSimplePost, IsSimpleMethod}
+
+pub posts_read_many : (xs : List PostNode) → 2 ≤ length xs → false ≡ is_some (posts_read (posts_of xs))
+posts_read_many [] h = absurd (omega (arith, h))
+posts_read_many (x ∷ []) h = absurd (omega (arith, h))
+posts_read_many (x ∷ y ∷ xs) h = refl
+
+-- ---- simple items are no cell reads
+module _ (ss : Scopes) where
+  method-unread : (m : MethodTree Text) → IsSimpleMethod (IsFound ss) m → method_read m ≡ None
+  method-unread (Plainly at w) h = refl
+  method-unread (Dim at from rank_at d upto) h = refl
+  method-unread (Contains at from es upto) h = refl
+  method-unread (Expand at from e upto) h = refl
+  method-unread (CellRead at w from upto) h = absurd h
+
+  post-unread : (p : PostTree Text) → IsSimplePost (IsFound ss) p → post_read p ≡ None
+  post-unread (Brackets from items upto) h = refl
+  post-unread (Rounds from es upto) h = refl
+  post-unread (Dotted dot m) h = method-unread m h
+
+  posts-unread : (ps : Posts Text) → AreSimplePosts (IsFound ss) ps → posts_read ps ≡ None
+  posts-unread NoPosts h = refl
+  posts-unread (Post p NoPosts) h = post-unread p h.0
+  posts-unread (Post p (Post q rest)) h = refl
+
+  by-none : (x : Option (Placed Text)) → read_by x None ≡ None
+  by-none None = refl
+  by-none (Some x) = refl
+
+  expr-unread : (e : ExprTree Text) → IsSimple (IsFound ss) e → cell_read e ≡ None
+  expr-unread (Number at n) h = refl
+  expr-unread (TruthWord at b) h = refl
+  expr-unread (Named x) h = refl
+  expr-unread (LocalesWord at) h = refl
+  expr-unread (LocaleCount at) h = refl
+  expr-unread (HereWord at) h = refl
+  expr-unread (Grouped from item upto) h = refl
+  expr-unread (DomainLiteral from items upto) h = refl
+  expr-unread (Prefixed at op e) h = refl
+  expr-unread (Reduced at op word e) h = refl
+  expr-unread (Chain e rest) h = refl
+  expr-unread (Postfixed e posts) h = ap (read_by (bare_name e)) (posts-unread posts h.1) ∙ by-none (bare_name e)
+
+  pub item-unread : (i : ItemTree Text) → IsSimpleItem (IsFound ss) i → item_read i ≡ None
+  item-unread (One e) h = expr-unread e h
+  item-unread (RangeItem low at dots high by) h = refl
+
+  pub read_unsimple : (i : ItemTree Text) (k : Kind) → kind_read ss (item_read i) ≡ Some k → IsSimpleItem (IsFound ss) i → ⊥
+  read_unsimple i k e h = let none : None ≡ Some k = ap (kind_read ss) (sym (item-unread i h)) ∙ e in cc
+
+-- of a right side that reads a cell nothing is asked
+pub read_absent : {A E : Type 0} (ss : Scopes) (i : ItemTree Text) (k : Kind) (Q : A → Type 0) (r : Result A E) → kind_read ss (item_read i) ≡ Some k → IfOk r (λ a. WhereSimpleItem ss i (Q a))
+read_absent ss i k Q (Ok a) e = λ simple near. absurd (read_unsimple ss i k e simple)
+read_absent ss i k Q (Err f) e = tt
