@@ -39,9 +39,7 @@ fn append(strip: &mut Strip, size: usize, most: usize, words: &[i64]) -> usize
     ensures words { (k : ℕ) → k < result → slice_get words.now k ≡ Some (get_or strip.new.words (size + k) (pos 0)) }
 {
     let more = words.len().min(most);
-    for k in 0..more {
-        strip.words[size + k] = words[k];
-    }
+    strip.words[size..size + more].copy_from_slice(&words[..more]);
     more
 }
 
