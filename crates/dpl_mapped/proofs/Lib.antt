@@ -1,0 +1,5 @@
+pub mod Same
+pub mod Typed
+pub mod Unbroken
+pub mod Lows
+pub mod Tuples
