@@ -1,0 +1,11 @@
+pub mod Unbroken
+pub mod Known
+pub mod Conditions
+pub mod Heads
+pub mod Once
+pub mod Opened
+pub mod Entered
+pub mod Seen
+pub mod Kept
+pub mod Stands
+pub mod Slots

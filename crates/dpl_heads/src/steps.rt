@@ -1,0 +1,114 @@
+// The steps of statements with bodies, of their parts: `if`, `while`, and loops over a range with one variable or over a domain.
+// Where the parts don't fit, `Step::Nothing` stands for the step.
+
+ghost use Rattle.std.specs.Prelude.{◌≡◌, map};
+ghost use Rattle.dpl_language.specs.Tree.{ExprTree, If as IfTree, While as WhileTree, For as ForTree, Forall as ForallTree};
+ghost use Rattle.dpl_lowered.specs.Shapes.{nowhere};
+ghost use Rattle.dpl_lowered.specs.LoweredStatements.{with_intents};
+ghost use Rattle.dpl_memory.specs.Memory.{Variable};
+ghost use Rattle.dpl_nodes.specs.Steps.{listed, intent_view, names_view, steps_of, step_view, else_view};
+ghost use Rattle.dpl_heads.specs.Made.{IsTruth, over_item, FitsNames};
+
+use crate::head::Iterable;
+use dpl_nodes::{BoolExpr, Else, Intent, Names, Spot, Step};
+
+/// An `if`.
+pub fn if_step<'t>(
+    condition: Option<&'t BoolExpr<'t>>,
+    body: &'t [Step<'t>],
+    otherwise: Else<'t>,
+) -> Step<'t>
+    ensures { (e : ExprTree Variable) → IsTruth e condition.entry
+        → step_view result ≡ IfTree nowhere e (listed (steps_of body.now)) (else_view otherwise.entry) }
+{
+    match condition {
+        None => Step::Nothing,
+        Some(condition) => Step::If {
+            condition,
+            body,
+            otherwise,
+        },
+    }
+}
+
+/// A `while`.
+pub fn while_step<'t>(
+    at: &'t Spot,
+    condition: Option<&'t BoolExpr<'t>>,
+    body: &'t [Step<'t>],
+) -> Step<'t>
+    ensures { (e : ExprTree Variable) → IsTruth e condition.entry → step_view result ≡ WhileTree at.now e (listed (steps_of body.now)) }
+{
+    match condition {
+        None => Step::Nothing,
+        Some(condition) => Step::While {
+            at,
+            condition,
+            body,
+        },
+    }
+}
+
+/// A `for`.
+pub fn for_step<'t>(
+    at: &'t Spot,
+    names: Names<'t>,
+    over: Iterable<'t>,
+    body: &'t [Step<'t>],
+) -> Step<'t>
+    ensures { FitsNames over.entry names.entry
+        → step_view result ≡ ForTree at.now (names_view names.entry) nowhere (over_item over.entry) (listed (steps_of body.now)) }
+{
+    match over {
+        Iterable::Range(range) => match names {
+            Names::Int(slot) => Step::For {
+                at,
+                slot,
+                over: range,
+                body,
+            },
+            Names::Tuple(_) | Names::Each(_, _) => Step::Nothing,
+        },
+        Iterable::Domain(domain) => Step::ForEach {
+            at,
+            names,
+            over: domain,
+            body,
+        },
+        Iterable::Nothing => Step::Nothing,
+    }
+}
+
+/// A forall, with its reduce variables.
+pub fn forall_step<'t>(
+    at: &'t Spot,
+    names: Names<'t>,
+    over: Iterable<'t>,
+    intents: &'t [Intent],
+    body: &'t [Step<'t>],
+) -> Step<'t>
+    ensures { FitsNames over.entry names.entry
+        → step_view result ≡ ForallTree at.now (names_view names.entry) nowhere (over_item over.entry) (with_intents (map intent_view intents.now))
+        (listed (steps_of body.now)) }
+{
+    match over {
+        Iterable::Range(range) => match names {
+            Names::Int(slot) => Step::Forall {
+                at,
+                slot,
+                over: range,
+                intents,
+                body,
+            },
+            Names::Tuple(_) | Names::Each(_, _) => Step::Nothing,
+        },
+        Iterable::Domain(domain) => Step::ForallEach {
+            at,
+            names,
+            over: domain,
+            intents,
+            body,
+        },
+        Iterable::Nothing => Step::Nothing,
+    }
+}
