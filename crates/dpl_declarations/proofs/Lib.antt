@@ -1,0 +1,9 @@
+pub mod Apart
+pub mod Known
+pub mod Placed
+pub mod Overs
+pub mod Defaults
+pub mod Beside
+pub mod Singles
+pub mod Arrays
+pub mod Whole

@@ -1,0 +1,41 @@
+-- What is told apart is what the declaration owes; where nothing was told, the step stands for it.
+-- The name is new, and has the type that was found.
+use Rattle.std.proofs.Common.{not, ◌++◌, ◌≡◌, Option, None, sym, ap, ◌∙◌, append_assoc}
+use Rattle.dpl_syntax.specs.declared.refusal.Breach.{Breach}
+use Rattle.dpl_syntax.specs.declared.refusal.Code.TheVariants.{NameTwice}
+use Rattle.dpl_tree.specs.Declarations.{declare_view}
+use Rattle.dpl_language.specs.Declarations.{type_of as written_type}
+use Rattle.dpl_rules.specs.Verdicts.{owed}
+use Rattle.dpl_rules.specs.Sights.{declared_here, origin_in}
+use Rattle.dpl_rules.specs.Breaches.{least_from, or_lesser}
+use Rattle.dpl_rules.specs.Declarations.{written_breaches, config_breaches, declaration_breaches}
+use Rattle.dpl_types.proofs.Breaches.{least_from_append}
+use Rattle.dpl_declarations.proofs.Apart.{told_apart}
+use Rattle.dpl_declarations.proofs.Whole.{declared-node, declared-known}
+use Rattle.dpl_declarations.proofs.declaration.declaration.Goals as goal
+
+pub returns-clause-told : goal.returns-clause-told
+returns-clause-told c =
+    let scopes = c.args.scopes.now in
+    let d = declare_view c.args.written.now in
+    let twice = owed (not (declared_here scopes d.name.name)) d.name.at NameTwice in
+    let written = written_breaches scopes (origin_in scopes d.name.name) (written_type d.typed) d.initial in
+    let config = config_breaches scopes d.config d in
+    let here = ap (λ b. least_from None (owed (not b) d.name.at NameTwice)) c.declared_here.ensures in
+    c.tell.ensures
+    ∙ ap (or_lesser c.args.first.now) (c.in-Ok.ensures.told.1
+    ∙ ap (λ o. least_from o (written ++ config)) (c.owed.ensures.1 ∙ here)
+    ∙ sym (least_from_append None twice (written ++ config)) ∙ ap (least_from None) (sym (append_assoc twice written config)))
+    ∙ told_apart c.args.first.now (declaration_breaches scopes d)
+
+pub returns-clause-node : goal.returns-clause-node
+returns-clause-node c = λ none plain.
+    let d = declare_view c.args.written.now in
+    let here = ap (λ b. least_from None (owed (not b) d.name.at NameTwice)) c.declared_here.ensures in
+    declared-node c.args.scopes.now d c.in-Ok.found c.args.first.now c.owed.new.first c.name.new.first (c.owed.ensures.1 ∙ here) c.in-Ok.ensures.told c.in-Ok.ensures.node (sym c.tell.ensures ∙ none) plain
+
+pub returns-clause-known : goal.returns-clause-known
+returns-clause-known c = λ none plain.
+    let d = declare_view c.args.written.now in
+    let here = ap (λ b. least_from None (owed (not b) d.name.at NameTwice)) c.declared_here.ensures in
+    declared-known c.args.scopes.now d c.in-Ok.found c.args.first.now c.owed.new.first c.name.new.first (c.owed.ensures.1 ∙ here) c.in-Ok.ensures.told c.in-Ok.ensures.node (sym c.tell.ensures ∙ none) plain

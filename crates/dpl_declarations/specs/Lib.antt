@@ -1,0 +1,6 @@
+-- Which declarations run.
+pub mod Plain
+-- What serves contracts and proofs alone.
+pub mod Told
+pub mod Trees
+pub mod Made
