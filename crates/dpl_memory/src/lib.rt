@@ -6,5 +6,5 @@
 // In `for t in D` t is an int where D has one dimension, and else a tuple. What stands in D's slot may have any rank, so the name has a
 // shape (`Shape`), which is read off the check's type. A memory is shaped where each name in sight has a value of its shape; of such
 // memories it is asked that a right side and a loop give values of the name's kind and shape, and the simulation keeps its memory shaped
-// (proofs/Shapes.antt, proofs/OverShapes.antt). That they do give them is the theorem of dpl_sound (proofs/Shaped.antt of dpl_typer).
+// (proofs/Shapes.antt, proofs/OverShapes.antt). That they do give them is the theorem of dpl_sound (proofs/Shaped.antt of dpl_runnable).
 #![tactic(auto)]

@@ -1,7 +1,7 @@
 // Typed trees: what a checked program is run from, each seen as a plain tree over slots.
 // Nothing here has a name, a bracket or a place that no fault tells, and nothing ill typed can be written down.
-// A typed tree is seen as a desugared one over slots (`step_view`, `typed_view` of dpl_typer), and the typer and the planner promise that
-// it is the program's. So there is one meaning, that of plain trees, and contracts speak of no other.
+// A typed tree is seen as a desugared one over slots (`step_view`, and `typed_view` of dpl_typed), and elaboration (dpl_checker) promises
+// that it is the program's. So there is one meaning, that of plain trees, and contracts speak of no other.
 #![tactic(auto)]
 
 pub mod fold;
