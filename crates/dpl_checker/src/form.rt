@@ -1,176 +1,269 @@
-// The statements that hold no other, and the heads of loops: what each tells and does, and what is in sight behind it.
+// The statements that hold no other, and the heads of loops: what each tells and does, what is in sight behind it, and its step.
 // A loop's head opens the scope of its variables.
 
-ghost use Rattle.std.specs.Prelude.{◌++◌, false, OnOk};
+ghost use Rattle.std.specs.Prelude.{◌++◌, false, OnOk, IfOk};
 ghost use Rattle.dpl_language.specs.Tree.{Declare as DeclareTree, Assigned as AssignedTree, Call as CallTree, Write as WriteTree};
 ghost use Rattle.dpl_tree.specs.View.{name_view, expr_view, item_view};
 ghost use Rattle.dpl_tree.specs.Declarations.{optional, declare_view};
 ghost use Rattle.dpl_tree.specs.Statements.{target_view, sign_view, call_view, written_view, variables_view, with_view};
 ghost use Rattle.dpl_rules.specs.Assignments.{condition_breaches, on_breaches};
+ghost use Rattle.dpl_heads.specs.Told.{word_view};
 ghost use Rattle.dpl_rules.specs.Deeds.{held as held_of, AnOn, expr_deeds as expr_deeds_of};
-ghost use Rattle.dpl_forms.specs.Heads.{word_view};
 ghost use Rattle.dpl_checker.specs.declared.walk.Around.{Around as AroundNode};
 ghost use Rattle.dpl_checker.specs.Walks.{Walks, WalksStmt, WalksLoop, WalksShared, sight_in};
+ghost use Rattle.dpl_checker.specs.Makes.{MakesStmt, MakesTruth, MakesHead, MakesReduced};
 
-use crate::walk::{Around, Check, Walked};
+use crate::walk::{Around, Stepped, Walk};
+use dpl_assignments::assignment::assignment;
 use dpl_bodies::outside::promoted_breaches;
+use dpl_declarations::declaration::declaration;
 use dpl_deeds::declaration::declaration_deeds;
 use dpl_deeds::expression::{expr_deeds, item_deeds};
 use dpl_deeds::statement::{arguments_deeds, call_deeds, target_deeds};
 use dpl_deeds::{Holding, behind, held};
-use dpl_forms::assignment::assignment;
-use dpl_forms::call::{call, condition, on};
-use dpl_forms::declaration::declaration;
-use dpl_forms::head::{LoopWord, head};
-use dpl_forms::intents::intents;
-use dpl_forms::print::print;
-use dpl_forms::variables::enter_loop;
+use dpl_heads::condition::{condition, on};
+use dpl_heads::head::{Iterable, LoopWord, head};
+use dpl_heads::intents::intents;
+use dpl_heads::variables::enter_loop;
+use dpl_nodes::{BoolExpr, Intent, Names, Step};
+use dpl_prints::call::call;
+use dpl_prints::print::print;
 use dpl_syntax::Place;
 use dpl_tree::{Assignment, CellCall, Declare, Expr, Item, Variables, With, Write};
+use std::alloc::AllocError;
 
 /// A declaration, whose name is in sight behind it.
 #[tactic(auto, using(crate::proofs::Names::add_declared_by))]
-pub(crate) fn declare<'t>(walk: &mut Check<'t>, around: Around<'t>, written: &Declare<'t>) -> Walked
-    ensures { OnOk result (WalksStmt around.entry (DeclareTree (declare_view written.now)) walk.old walk.new) }
+pub(crate) fn declare<'t>(
+    walk: &mut Walk<'t>,
+    around: Around<'t>,
+    written: &Declare<'t>,
+) -> Stepped<'t>
+    ensures walks { OnOk result (WalksStmt around.entry (DeclareTree (declare_view written.now)) walk.old walk.new) }
+    ensures makes { IfOk result (MakesStmt walk.old.scopes (DeclareTree (declare_view written.now)) walk.new.first) }
 {
-    let declared = declaration(walk.alloc, &walk.scopes, written, &mut walk.first)?;
-    declaration_deeds(walk.arena, &walk.scopes, written, &mut walk.deeds)?;
-    walk.scopes
+    let Ok(made) = declaration(walk.arena, &walk.scopes, written, &mut walk.first) else {
+        return Err(AllocError);
+    };
+    let Ok(()) = declaration_deeds(walk.arena, &walk.scopes, written, &mut walk.deeds) else {
+        return Err(AllocError);
+    };
+    let declared = made.declared;
+    let Ok(()) = walk
+        .scopes
         .declare(declared.origin.name, declared.sort, declared.value_type)
+    else {
+        return Err(AllocError);
+    };
+    walk.count_slots();
+    Ok(made.step)
 }
 
 /// An assignment.
 pub(crate) fn assigned<'t>(
-    walk: &mut Check<'t>,
+    walk: &mut Walk<'t>,
     around: Around<'t>,
     written: &Assignment<'t>,
-) -> Walked
-    ensures { OnOk result (WalksStmt around.entry (AssignedTree (target_view written.now.target) (sign_view written.now.sign)
+) -> Stepped<'t>
+    ensures walks { OnOk result (WalksStmt around.entry (AssignedTree (target_view written.now.target) (sign_view written.now.sign)
         (item_view written.now.value) written.now.semicolon) walk.old walk.new) }
+    ensures makes { IfOk result (MakesStmt walk.old.scopes (AssignedTree (target_view written.now.target) (sign_view written.now.sign)
+        (item_view written.now.value) written.now.semicolon) walk.new.first) }
 {
-    assignment(
-        walk.alloc,
+    let Ok(step) = assignment(
+        walk.arena,
         &walk.scopes,
         &around.forall,
         written,
         &mut walk.first,
-    )?;
+    ) else {
+        return Err(AllocError);
+    };
     let start = walk.deeds.len();
-    item_deeds(
+    let Ok(()) = item_deeds(
         walk.arena,
         &walk.scopes,
         false,
         &written.value,
         &mut walk.deeds,
-    )?;
-    promoted_breaches(
-        walk.alloc,
+    ) else {
+        return Err(AllocError);
+    };
+    let Ok(()) = promoted_breaches(
+        walk.arena.alloc(),
         &walk.scopes,
         &written.target,
         &written.value,
         behind(&walk.deeds, start),
         &mut walk.first,
-    )?;
-    target_deeds(
+    ) else {
+        return Err(AllocError);
+    };
+    let Ok(()) = target_deeds(
         walk.arena,
         &walk.scopes,
         &written.target,
         written.sign.op,
         &mut walk.deeds,
-    )?;
-    Ok(())
+    ) else {
+        return Err(AllocError);
+    };
+    Ok(step)
 }
 
-/// A cell's call.
-pub(crate) fn called<'t>(walk: &mut Check<'t>, around: Around<'t>, written: &CellCall<'t>) -> Walked
+/// A cell's call, which isn't run.
+pub(crate) fn called<'t>(
+    walk: &mut Walk<'t>,
+    around: Around<'t>,
+    written: &CellCall<'t>,
+) -> Stepped<'t>
     ensures { OnOk result (WalksStmt around.entry (CallTree (name_view written.now.name) written.now.dot
         (call_view written.now.call) written.now.semicolon) walk.old walk.new) }
 {
-    call(walk.alloc, &walk.scopes, written, &mut walk.first)?;
-    call_deeds(
+    let Ok(()) = call(walk.arena, &walk.scopes, written, &mut walk.first) else {
+        return Err(AllocError);
+    };
+    let Ok(()) = call_deeds(
         walk.arena,
         &walk.scopes,
         &written.name,
         &written.call,
         &mut walk.deeds,
-    )
+    ) else {
+        return Err(AllocError);
+    };
+    Ok(Step::Nothing)
 }
 
 /// What is printed.
 #[tactic(auto, using(dpl_deeds::proofs::Steps::added_then))]
-pub(crate) fn printed<'t>(walk: &mut Check<'t>, around: Around<'t>, written: &Write<'t>) -> Walked
-    ensures { OnOk result (WalksStmt around.entry (WriteTree (written_view written.now)) walk.old walk.new) }
+pub(crate) fn printed<'t>(
+    walk: &mut Walk<'t>,
+    around: Around<'t>,
+    written: &Write<'t>,
+) -> Stepped<'t>
+    ensures walks { OnOk result (WalksStmt around.entry (WriteTree (written_view written.now)) walk.old walk.new) }
+    ensures makes { IfOk result (MakesStmt walk.old.scopes (WriteTree (written_view written.now)) walk.new.first) }
 {
-    print(
-        walk.alloc,
+    let Ok(step) = print(
+        walk.arena,
         &walk.scopes,
         around.in_task,
         written,
         &mut walk.first,
-    )?;
-    held(written.at, Holding::Print, &mut walk.deeds)?;
-    arguments_deeds(
+    ) else {
+        return Err(AllocError);
+    };
+    let Ok(()) = held(written.at, Holding::Print, &mut walk.deeds) else {
+        return Err(AllocError);
+    };
+    let Ok(()) = arguments_deeds(
         walk.arena,
         &walk.scopes,
         &written.arguments,
         &mut walk.deeds,
-    )
+    ) else {
+        return Err(AllocError);
+    };
+    Ok(step)
+}
+
+/// What a loop's head comes to: its variables with their slots, and what it runs over.
+#[derive(Clone, Copy)]
+pub(crate) struct Opened<'t> {
+    pub names: Names<'t>,
+    pub over: Iterable<'t>,
 }
 
 /// The head of a loop: what it runs over, and the scope of its variables, which is open behind it.
 #[tactic(auto, using(dpl_types::proofs::Breaches::least_from_append))]
 pub(crate) fn open_loop<'t>(
-    walk: &mut Check<'t>,
+    walk: &mut Walk<'t>,
     word: LoopWord,
     variables: &Variables<'t>,
     over: &Item<'t>,
-) -> Walked
-    ensures { OnOk result (WalksLoop (word_view word) (variables_view variables.now) (item_view over.now) walk.old walk.new) }
+) -> Result<Opened<'t>, AllocError>
+    ensures walks { OnOk result (WalksLoop (word_view word) (variables_view variables.now) (item_view over.now) walk.old walk.new) }
+    ensures makes { IfOk result (MakesHead walk.old.scopes (word_view word) (variables_view variables.now) (item_view over.now) walk.new.first) }
 {
-    let found = head(
-        walk.alloc,
+    let Ok(found) = head(
+        walk.arena,
         &walk.scopes,
         word,
         variables,
         over,
         &mut walk.first,
-    )?;
-    item_deeds(walk.arena, &walk.scopes, false, over, &mut walk.deeds)?;
-    enter_loop(&mut walk.scopes, variables, found, &mut walk.first)
+    ) else {
+        return Err(AllocError);
+    };
+    let Ok(()) = item_deeds(walk.arena, &walk.scopes, false, over, &mut walk.deeds) else {
+        return Err(AllocError);
+    };
+    let Ok(names) = enter_loop(
+        walk.arena,
+        &mut walk.scopes,
+        variables,
+        found.variable_type,
+        &mut walk.first,
+    ) else {
+        return Err(AllocError);
+    };
+    walk.count_slots();
+    Ok(Opened {
+        names,
+        over: found.over,
+    })
 }
 
-/// The head of a forall or a coforall, with what its intents owe.
+/// The head of a forall or a coforall, with its intents: its reduce variables.
 pub(crate) fn open_shared<'t>(
-    walk: &mut Check<'t>,
+    walk: &mut Walk<'t>,
     word: LoopWord,
     variables: &Variables<'t>,
     over: &Item<'t>,
     with: &Option<With<'t>>,
-) -> Walked
-    ensures { OnOk result (WalksShared (word_view word) (variables_view variables.now) (item_view over.now) (optional with_view with.now) walk.old walk.new) }
+) -> Result<(Opened<'t>, &'t [Intent]), AllocError>
+    ensures walks { OnOk result (WalksShared (word_view word) (variables_view variables.now) (item_view over.now) (optional with_view with.now) walk.old walk.new) }
+    ensures makes { IfOk result (λ o. MakesHead walk.old.scopes (word_view word) (variables_view variables.now) (item_view over.now) walk.new.first o.0) }
+    ensures reduced { IfOk result (λ o. MakesReduced walk.old.scopes (optional with_view with.now) walk.new.first o.1.now) }
 {
-    intents(walk.alloc, &walk.scopes, with, &mut walk.first)?;
-    open_loop(walk, word, variables, over)?;
-    Ok(())
+    let Ok(reduced) = intents(walk.arena, &walk.scopes, with, &mut walk.first) else {
+        return Err(AllocError);
+    };
+    let Ok(opened) = open_loop(walk, word, variables, over) else {
+        return Err(AllocError);
+    };
+    Ok((opened, reduced))
 }
 
 /// The condition of an `if` or a `while`.
-pub(crate) fn tested<'t>(walk: &mut Check<'t>, e: &Expr<'t>) -> Walked
-    ensures { (around : AroundNode) → OnOk result (Walks walk.old.scopes (expr_deeds_of walk.old.scopes false (expr_view e.now))
+pub(crate) fn tested<'t>(
+    walk: &mut Walk<'t>,
+    e: &Expr<'t>,
+) -> Result<Option<&'t BoolExpr<'t>>, AllocError>
+    ensures walks { (around : AroundNode) → OnOk result (Walks walk.old.scopes walk.old.slots (expr_deeds_of walk.old.scopes false (expr_view e.now))
         (condition_breaches (sight_in walk.old.scopes around) (expr_view e.now)) walk.old walk.new) }
+    ensures makes { IfOk result (MakesTruth walk.old.scopes (expr_view e.now) walk.new.first) }
 {
-    condition(walk.alloc, &walk.scopes, e, &mut walk.first)?;
-    expr_deeds(walk.arena, &walk.scopes, false, e, &mut walk.deeds)?;
-    Ok(())
+    let Ok(tested) = condition(walk.arena, &walk.scopes, e, &mut walk.first) else {
+        return Err(AllocError);
+    };
+    let Ok(()) = expr_deeds(walk.arena, &walk.scopes, false, e, &mut walk.deeds) else {
+        return Err(AllocError);
+    };
+    Ok(tested)
 }
 
 /// What `on` stands before.
-pub(crate) fn sent<'t>(walk: &mut Check<'t>, at: Place, e: &Expr<'t>) -> Walked
-    ensures { (around : AroundNode) → OnOk result (Walks walk.old.scopes (held_of at AnOn ++ expr_deeds_of walk.old.scopes false (expr_view e.now))
+pub(crate) fn sent<'t>(walk: &mut Walk<'t>, at: Place, e: &Expr<'t>) -> Result<(), AllocError>
+    ensures { (around : AroundNode) → OnOk result (Walks walk.old.scopes walk.old.slots (held_of at AnOn ++ expr_deeds_of walk.old.scopes false (expr_view e.now))
         (on_breaches (sight_in walk.old.scopes around) (expr_view e.now)) walk.old walk.new) }
 {
-    on(walk.alloc, &walk.scopes, e, &mut walk.first)?;
-    held(at, Holding::On, &mut walk.deeds)?;
-    expr_deeds(walk.arena, &walk.scopes, false, e, &mut walk.deeds)?;
-    Ok(())
+    let Ok(()) = on(walk.arena, &walk.scopes, e, &mut walk.first) else {
+        return Err(AllocError);
+    };
+    let Ok(()) = held(at, Holding::On, &mut walk.deeds) else {
+        return Err(AllocError);
+    };
+    expr_deeds(walk.arena, &walk.scopes, false, e, &mut walk.deeds)
 }

@@ -1,63 +1,93 @@
-// The refusal of a program: its first breach by place and then by code, or else a set that doesn't fit.
-// A program without one keeps all rules.
+// A whole program, walked over: where it breaks which rule first, its steps, how many slots these need, and its top level.
+// A program without a violation keeps all rules, and a set that doesn't fit it is refused after these.
 
 ghost use Rattle.std.specs.Prelude.{◌≡◌, IfOk, [], None, map};
 ghost use Rattle.dpl_tree.specs.Statements.{stmts_of, program_view};
 ghost use Rattle.dpl_rules.specs.Breaches.{top, first_breach as first_breach_of};
+ghost use Rattle.dpl_rules.specs.Sound.{behind_all, refusal_by, sets_fit as sets_fit_of};
 ghost use Rattle.dpl_deeds.specs.View.{deed_view};
+ghost use Rattle.dpl_bound.specs.Bounds.{slots_of};
 ghost use Rattle.dpl_checker.specs.Walks.{whole_told};
-ghost use Rattle.dpl_rules.specs.Sound.{behind_all, refusal_by, refusal as refusal_of};
+ghost use Rattle.dpl_checker.specs.Makes.{MakesStmts};
 
 use crate::statement::stmts;
-use crate::walk::{Around, Check};
+use crate::walk::{Around, Walk};
 use dpl_bodies::outside::inner_reductions;
 use dpl_limits::{limits, sets_fit};
+use dpl_nodes::Step;
 use dpl_scopes::Scopes;
 use dpl_syntax::{Breach, Code, Refusal};
 use dpl_tree::{Arena, Program, Stmt};
-use std::alloc::AllocError;
+use std::alloc::{AllocError, Global};
+
+/// A program that was walked over.
+#[derive(Drop)]
+pub struct Walked<'t> {
+    /// The first violation by place and then by code, if there is one.
+    pub first: Option<Breach>,
+    /// The program as typed statements; where a rule is broken, of these nothing is said.
+    pub steps: &'t [Step<'t>],
+    /// How many slots a frame needs.
+    pub slots: usize,
+    /// The names at the program's end: its top level.
+    pub scopes: Scopes<'t>,
+}
 
 // A walk before any statement.
-fn begin<'t>(arena: Arena<'t>) -> Result<Check<'t>, AllocError>
-    ensures { IfOk result (λ walk. (walk.scopes ≡ top) × (walk.deeds.items ≡ []) × (walk.first ≡ None)) }
+fn begin<'t>(arena: Arena<'t>) -> Result<Walk<'t>, AllocError>
+    ensures { IfOk result (λ walk. (walk.scopes ≡ top) × (walk.slots ≡ 0) × (walk.deeds.items ≡ []) × (walk.first ≡ None)) }
 {
     let alloc = arena.alloc();
-    Ok(Check {
-        alloc,
+    let Ok(scopes) = Scopes::new(alloc) else {
+        return Err(AllocError);
+    };
+    Ok(Walk {
         arena,
-        scopes: Scopes::new(alloc)?,
+        scopes,
         deeds: Vec::new(alloc),
         first: None,
+        slots: 0,
     })
 }
 
 // Behind a walk over all statements of a program: what is told of all deeds and of all declarations.
-fn tell_whole<'t>(walk: &mut Check<'t>, statements: &[Stmt<'t>])
+fn tell_whole<'t>(walk: &mut Walk<'t>, statements: &[Stmt<'t>])
     ensures { walk.new ≡ record walk.old { first = whole_told (stmts_of statements.now) (map deed_view walk.old.deeds.items) walk.old.first } }
 {
     inner_reductions(&walk.deeds, &mut walk.first);
     limits(statements, &mut walk.first);
 }
 
-// A program's first breach, if there is one, and what is in sight at its end.
-fn first_breach<'t>(
-    arena: Arena<'t>,
-    program: &Program<'t>,
-) -> Result<(Option<Breach>, Scopes<'t>), AllocError>
-    ensures first { IfOk result (λ r. r.0 ≡ first_breach_of (program_view program.now)) }
-    ensures scopes { IfOk result (λ r. r.1 ≡ behind_all top (stmts_of program.now.stmts.now)) }
+/// Walks over a program once. Nodes lie in the arena.
+///
+/// # Errors
+/// Out of memory.
+pub fn walk_over<'t>(arena: Arena<'t>, program: &Program<'t>) -> Result<Walked<'t>, AllocError>
+    ensures first { IfOk result (λ w. w.first ≡ first_breach_of (program_view program.now)) }
+    ensures scopes { IfOk result (λ w. w.scopes ≡ behind_all top (stmts_of program.now.stmts.now)) }
+    ensures slots { IfOk result (λ w. w.slots ≡ slots_of (program_view program.now)) }
+    ensures steps { IfOk result (λ w. MakesStmts top (stmts_of program.now.stmts.now) w.first w.steps.now) }
 {
-    let mut walk = begin(arena)?;
+    let Ok(mut walk) = begin(arena) else {
+        return Err(AllocError);
+    };
     let outside = Around {
         forall: None,
         in_task: false,
     };
-    stmts(&mut walk, outside, program.stmts)?;
+    let Ok(steps) = stmts(&mut walk, outside, program.stmts) else {
+        return Err(AllocError);
+    };
     tell_whole(&mut walk, program.stmts);
-    Ok((walk.first, walk.scopes))
+    Ok(Walked {
+        first: walk.first,
+        steps,
+        slots: walk.slots,
+        scopes: walk.scopes,
+    })
 }
 
-// The refusal by a breach, or else by whether the sets fit.
+// The refusal by a violation, or else by whether the sets fit.
 fn refused(breach: Option<Breach>, fit: bool) -> Option<Refusal>
     ensures { result ≡ refusal_by breach fit }
 {
@@ -77,19 +107,18 @@ fn refused(breach: Option<Breach>, fit: bool) -> Option<Refusal>
     }
 }
 
-/// The refusal of a program, where it breaks a rule or a set of the command line doesn't fit it: of its breaches the
-/// first by place and then by code, C1 to C13, and else C14 for the sets. Indices lie in the arena while it is looked at.
-///
-/// # Errors
-/// Out of memory.
-pub fn refusal<'t>(
-    arena: Arena<'t>,
-    program: &Program<'t>,
-    sets: &[&str],
-) -> Result<Option<Refusal>, AllocError>
-    ensures { IfOk result (λ r. r ≡ refusal_of (program_view program.now) (map (λ set. set.now) sets.now)) }
-{
-    let (breach, scopes) = first_breach(arena, program)?;
-    let fit = sets_fit(arena.alloc(), &scopes, sets)?;
-    Ok(refused(breach, fit))
+impl<'t> Walked<'t> {
+    /// The refusal of a program that was walked over, where it breaks a rule or a set of the command line doesn't fit it: of its
+    /// violations the first by place and then by code, C1 to C13, and else C14 for the sets.
+    ///
+    /// # Errors
+    /// Out of memory.
+    pub fn refusal(&self, alloc: Global, sets: &[&str]) -> Result<Option<Refusal>, AllocError>
+        ensures { IfOk result (λ r. r ≡ refusal_by self.now.first (sets_fit_of self.now.scopes [] (map (λ set. set.now) sets.now))) }
+    {
+        let Ok(fit) = sets_fit(alloc, &self.scopes, sets) else {
+            return Err(AllocError);
+        };
+        Ok(refused(self.first, fit))
+    }
 }

@@ -1,40 +1,49 @@
-// The walk over statements: each tells its form, puts its deeds behind those so far, and opens and closes scopes.
+// The walk over statements: each tells its form, puts its deeds behind those so far, opens and closes scopes, and gives its step.
 // What the body of a forall or a coforall does is then asked of the deeds that it has put there.
 
-ghost use Rattle.std.specs.Prelude.{◌≡◌, OnOk};
-ghost use Rattle.dpl_language.specs.Tree.{If as IfTree, While as WhileTree, For as ForTree, Forall as ForallTree, Coforall as CoforallTree, On as OnTree};
-ghost use Rattle.dpl_tree.specs.View.{expr_view, item_view};
-ghost use Rattle.dpl_tree.specs.Declarations.{optional};
-ghost use Rattle.dpl_tree.specs.Statements.{variables_view, with_view, stmt_view, body_view, else_view, stmts_of};
-ghost use Rattle.dpl_checker.specs.Walks.{WalksStmt, WalksStmts, WalksBody, WalksElse};
+ghost use Rattle.std.specs.Prelude.{◌≡◌, OnOk, IfOk};
+ghost use Rattle.dpl_language.specs.Tree.{Then, NoStmts};
+ghost use Rattle.dpl_tree.specs.Statements.{stmt_view, body_view, else_view, stmts_of};
+ghost use Rattle.dpl_checker.specs.Trees.{if_tree, while_tree, for_tree, forall_tree, coforall_tree, on_tree};
+ghost use Rattle.dpl_checker.specs.Walks.{WalksStmt, WalksStmts, WalksInner, WalksBody, WalksElse};
+ghost use Rattle.dpl_checker.specs.Makes.{MakesStmt, MakesStmts, MakesInner, MakesBody, MakesElse};
 
 use crate::form::{assigned, called, declare, open_loop, open_shared, printed, sent, tested};
-use crate::walk::{Around, Check, Walked};
+use crate::walk::{Around, Listed, Stepped, Walk};
+use dpl_assignments::around::Reducing;
 use dpl_bodies::ForallScope;
 use dpl_bodies::forall::forall_breaches;
 use dpl_bodies::task::task_breaches;
 use dpl_deeds::statement::with_deeds;
 use dpl_deeds::{Holding, behind, held};
-use dpl_forms::around::Reducing;
-use dpl_forms::head::LoopWord;
+use dpl_heads::head::LoopWord;
+use dpl_heads::steps::{for_step, forall_step, if_step, while_step};
+use dpl_nodes::{Else as Otherwise, Step};
 use dpl_tree::{Body, Coforall, Else, For, Forall, If, On, Stmt, While};
+use dpl_typed::node::spot;
+use std::alloc::AllocError;
 
 /// A statement.
 #[cycle(statement)]
-pub(crate) fn stmt<'t>(walk: &mut Check<'t>, around: Around<'t>, stmt: &Stmt<'t>) -> Walked
-    ensures { OnOk result (WalksStmt around.entry (stmt_view stmt.now) walk.old walk.new) }
+pub(crate) fn stmt<'t>(walk: &mut Walk<'t>, around: Around<'t>, stmt: &Stmt<'t>) -> Stepped<'t>
+    ensures walks { OnOk result (WalksStmt around.entry (stmt_view stmt.now) walk.old walk.new) }
+    ensures makes { IfOk result (MakesStmt walk.old.scopes (stmt_view stmt.now) walk.new.first) }
 {
     match stmt {
-        Stmt::Nothing(_) => Ok(()),
+        Stmt::Nothing(_) => Ok(Step::Nothing),
         Stmt::Declare(written) => declare(walk, around, written),
         Stmt::Assigned(written) => assigned(walk, around, written),
         Stmt::Call(written) => called(walk, around, written),
         Stmt::Write(written) => printed(walk, around, written),
         Stmt::Block(block) => {
-            walk.scopes.enter()?;
-            stmts(walk, around, block.stmts)?;
+            let Ok(()) = walk.scopes.enter() else {
+                return Err(AllocError);
+            };
+            let Ok(steps) = stmts(walk, around, block.stmts) else {
+                return Err(AllocError);
+            };
             walk.scopes.leave();
-            Ok(())
+            Ok(Step::Block(steps))
         }
         Stmt::If(choice) => choose(walk, around, choice),
         Stmt::While(turns) => repeat(walk, around, turns),
@@ -47,99 +56,178 @@ pub(crate) fn stmt<'t>(walk: &mut Check<'t>, around: Around<'t>, stmt: &Stmt<'t>
 
 /// Statements, one behind the other.
 #[cycle(statement)]
-pub(crate) fn stmts<'t>(walk: &mut Check<'t>, around: Around<'t>, stmts: &[Stmt<'t>]) -> Walked
-    ensures { OnOk result (WalksStmts around.entry (stmts_of stmts.now) walk.old walk.new) }
+pub(crate) fn stmts<'t>(walk: &mut Walk<'t>, around: Around<'t>, stmts: &[Stmt<'t>]) -> Listed<'t>
+    ensures walks { OnOk result (WalksStmts around.entry (stmts_of stmts.now) walk.old walk.new) }
+    ensures makes { IfOk result (λ steps. MakesStmts walk.old.scopes (stmts_of stmts.now) walk.new.first steps.now) }
 {
+    let mut steps = Vec::new(walk.arena.alloc());
     for next in stmts {
-        stmt(walk, around, next)?;
+        let Ok(step) = stmt(walk, around, next) else {
+            return Err(AllocError);
+        };
+        let Ok(()) = steps.push(step) else {
+            return Err(AllocError);
+        };
     }
-    Ok(())
+    walk.arena.list(steps)
+}
+
+// One statement as a list.
+#[cycle(statement)]
+fn only<'t>(walk: &mut Walk<'t>, around: Around<'t>, inner: &Stmt<'t>) -> Listed<'t>
+    ensures walks { OnOk result (WalksStmt around.entry (stmt_view inner.now) walk.old walk.new) }
+    ensures makes { IfOk result (λ steps. MakesStmts walk.old.scopes (Then (stmt_view inner.now) NoStmts) walk.new.first steps.now) }
+{
+    let Ok(step) = stmt(walk, around, inner) else {
+        return Err(AllocError);
+    };
+    let mut steps = Vec::new(walk.arena.alloc());
+    let Ok(()) = steps.push(step) else {
+        return Err(AllocError);
+    };
+    walk.arena.list(steps)
+}
+
+// A body, in the scope that was opened for it.
+#[cycle(statement)]
+fn inner<'t>(walk: &mut Walk<'t>, around: Around<'t>, body: &Body<'t>) -> Listed<'t>
+    ensures walks { OnOk result (WalksInner around.entry (body_view body.now) walk.old walk.new) }
+    ensures makes { IfOk result (λ steps. MakesInner walk.old.scopes (body_view body.now) walk.new.first steps.now) }
+{
+    match body {
+        Body::Word(_, inner) => only(walk, around, inner),
+        Body::Block(block) => stmts(walk, around, block.stmts),
+    }
 }
 
 // A body, in a scope of its own.
 #[cycle(statement)]
-fn body<'t>(walk: &mut Check<'t>, around: Around<'t>, body: &Body<'t>) -> Walked
-    ensures { OnOk result (WalksBody around.entry (body_view body.now) walk.old walk.new) }
+fn body<'t>(walk: &mut Walk<'t>, around: Around<'t>, body: &Body<'t>) -> Listed<'t>
+    ensures walks { OnOk result (WalksBody around.entry (body_view body.now) walk.old walk.new) }
+    ensures makes { IfOk result (λ steps. MakesBody walk.old.scopes (body_view body.now) walk.new.first steps.now) }
 {
-    walk.scopes.enter()?;
-    match body {
-        Body::Word(_, inner) => stmt(walk, around, inner)?,
-        Body::Block(block) => stmts(walk, around, block.stmts)?,
-    }
+    let Ok(()) = walk.scopes.enter() else {
+        return Err(AllocError);
+    };
+    let Ok(steps) = inner(walk, around, body) else {
+        return Err(AllocError);
+    };
     walk.scopes.leave();
-    Ok(())
+    Ok(steps)
 }
 
 // What stands behind `else`, in a scope of its own.
 #[cycle(statement)]
-fn otherwise<'t>(walk: &mut Check<'t>, around: Around<'t>, otherwise: &Else<'t>) -> Walked
-    ensures { OnOk result (WalksElse around.entry (else_view otherwise.now) walk.old walk.new) }
+fn otherwise<'t>(
+    walk: &mut Walk<'t>,
+    around: Around<'t>,
+    other: &Else<'t>,
+) -> Result<Otherwise<'t>, AllocError>
+    ensures walks { OnOk result (WalksElse around.entry (else_view other.now) walk.old walk.new) }
+    ensures makes { IfOk result (λ o. MakesElse walk.old.scopes (else_view other.now) walk.new.first o) }
 {
-    match otherwise {
-        Else::Absent => Ok(()),
+    match other {
+        Else::Absent => Ok(Otherwise::Absent),
         Else::Do(_, inner) => {
-            walk.scopes.enter()?;
-            stmt(walk, around, inner)?;
+            let Ok(()) = walk.scopes.enter() else {
+                return Err(AllocError);
+            };
+            let Ok(step) = stmt(walk, around, inner) else {
+                return Err(AllocError);
+            };
             walk.scopes.leave();
-            Ok(())
+            let Ok(step) = walk.arena.node(step) else {
+                return Err(AllocError);
+            };
+            Ok(Otherwise::Do(step))
         }
     }
 }
 
 // `if`, perhaps with `else`.
 #[cycle(statement)]
-fn choose<'t>(walk: &mut Check<'t>, around: Around<'t>, choice: &If<'t>) -> Walked
-    ensures { OnOk result (WalksStmt around.entry (IfTree choice.now.at (expr_view choice.now.condition.now) (body_view choice.now.body)
-        (else_view choice.now.otherwise)) walk.old walk.new) }
+fn choose<'t>(walk: &mut Walk<'t>, around: Around<'t>, choice: &If<'t>) -> Stepped<'t>
+    ensures walks { OnOk result (WalksStmt around.entry (if_tree choice.now) walk.old walk.new) }
+    ensures makes { IfOk result (MakesStmt walk.old.scopes (if_tree choice.now) walk.new.first) }
 {
-    tested(walk, choice.condition)?;
-    body(walk, around, &choice.body)?;
-    otherwise(walk, around, &choice.otherwise)?;
-    Ok(())
+    let Ok(condition) = tested(walk, choice.condition) else {
+        return Err(AllocError);
+    };
+    let Ok(body) = body(walk, around, &choice.body) else {
+        return Err(AllocError);
+    };
+    let Ok(otherwise) = otherwise(walk, around, &choice.otherwise) else {
+        return Err(AllocError);
+    };
+    Ok(if_step(condition, body, otherwise))
 }
 
 // `while`.
 #[cycle(statement)]
-fn repeat<'t>(walk: &mut Check<'t>, around: Around<'t>, turns: &While<'t>) -> Walked
-    ensures { OnOk result (WalksStmt around.entry (WhileTree turns.now.at (expr_view turns.now.condition.now) (body_view turns.now.body)) walk.old walk.new) }
+fn repeat<'t>(walk: &mut Walk<'t>, around: Around<'t>, turns: &While<'t>) -> Stepped<'t>
+    ensures walks { OnOk result (WalksStmt around.entry (while_tree turns.now) walk.old walk.new) }
+    ensures makes { IfOk result (MakesStmt walk.old.scopes (while_tree turns.now) walk.new.first) }
 {
-    tested(walk, turns.condition)?;
-    body(walk, around, &turns.body)?;
-    Ok(())
+    let Ok(at) = spot(walk.arena, turns.at) else {
+        return Err(AllocError);
+    };
+    let Ok(condition) = tested(walk, turns.condition) else {
+        return Err(AllocError);
+    };
+    let Ok(body) = body(walk, around, &turns.body) else {
+        return Err(AllocError);
+    };
+    Ok(while_step(at, condition, body))
 }
 
 // `for`.
 #[cycle(statement)]
-fn for_turns<'t>(walk: &mut Check<'t>, around: Around<'t>, turns: &For<'t>) -> Walked
-    ensures { OnOk result (WalksStmt around.entry (ForTree turns.now.at (variables_view turns.now.variables) turns.now.within (item_view turns.now.over)
-        (body_view turns.now.body)) walk.old walk.new) }
+fn for_turns<'t>(walk: &mut Walk<'t>, around: Around<'t>, turns: &For<'t>) -> Stepped<'t>
+    ensures walks { OnOk result (WalksStmt around.entry (for_tree turns.now) walk.old walk.new) }
+    ensures makes { IfOk result (MakesStmt walk.old.scopes (for_tree turns.now) walk.new.first) }
 {
-    open_loop(walk, LoopWord::For, &turns.variables, &turns.over)?;
-    body(walk, around, &turns.body)?;
+    let Ok(at) = spot(walk.arena, turns.at) else {
+        return Err(AllocError);
+    };
+    let Ok(opened) = open_loop(walk, LoopWord::For, &turns.variables, &turns.over) else {
+        return Err(AllocError);
+    };
+    let Ok(body) = body(walk, around, &turns.body) else {
+        return Err(AllocError);
+    };
     walk.scopes.leave();
-    Ok(())
+    Ok(for_step(at, opened.names, opened.over, body))
 }
 
 // `forall`: the rules on its body speak of what that does.
 #[cycle(statement)]
-fn forall_turns<'t>(walk: &mut Check<'t>, around: Around<'t>, turns: &Forall<'t>) -> Walked
-    ensures { OnOk result (WalksStmt around.entry (ForallTree turns.now.at (variables_view turns.now.variables) turns.now.within (item_view turns.now.over)
-        (optional with_view turns.now.with) (body_view turns.now.body)) walk.old walk.new) }
+fn forall_turns<'t>(walk: &mut Walk<'t>, around: Around<'t>, turns: &Forall<'t>) -> Stepped<'t>
+    ensures walks { OnOk result (WalksStmt around.entry (forall_tree turns.now) walk.old walk.new) }
+    ensures makes { IfOk result (MakesStmt walk.old.scopes (forall_tree turns.now) walk.new.first) }
 {
     let seen = ForallScope {
         depth: walk.scopes.depth(),
         variables: turns.variables,
         with: turns.with,
     };
-    held(turns.at, Holding::Forall, &mut walk.deeds)?;
-    open_shared(
+    let Ok(at) = spot(walk.arena, turns.at) else {
+        return Err(AllocError);
+    };
+    let Ok(()) = held(turns.at, Holding::Forall, &mut walk.deeds) else {
+        return Err(AllocError);
+    };
+    let Ok((opened, reduced)) = open_shared(
         walk,
         LoopWord::Forall,
         &turns.variables,
         &turns.over,
         &turns.with,
-    )?;
-    with_deeds(&turns.with, &mut walk.deeds)?;
+    ) else {
+        return Err(AllocError);
+    };
+    let Ok(()) = with_deeds(&turns.with, &mut walk.deeds) else {
+        return Err(AllocError);
+    };
     let start = walk.deeds.len();
     let inside = Around {
         forall: Some(Reducing {
@@ -148,50 +236,65 @@ fn forall_turns<'t>(walk: &mut Check<'t>, around: Around<'t>, turns: &Forall<'t>
         }),
         in_task: around.in_task,
     };
-    body(walk, inside, &turns.body)?;
+    let Ok(body) = body(walk, inside, &turns.body) else {
+        return Err(AllocError);
+    };
     walk.scopes.leave();
-    forall_breaches(
-        walk.alloc,
+    let Ok(()) = forall_breaches(
+        walk.arena.alloc(),
         &seen,
         behind(&walk.deeds, start),
         &mut walk.first,
-    )?;
-    Ok(())
+    ) else {
+        return Err(AllocError);
+    };
+    Ok(forall_step(at, opened.names, opened.over, reduced, body))
 }
 
-// `coforall`: the rules on its body speak of what its intents and that do.
+// `coforall`: the rules on its body speak of what its intents and that do. It isn't run.
 #[cycle(statement)]
-fn coforall_tasks<'t>(walk: &mut Check<'t>, around: Around<'t>, tasks: &Coforall<'t>) -> Walked
-    ensures { OnOk result (WalksStmt around.entry (CoforallTree tasks.now.at (variables_view tasks.now.variables) tasks.now.within (item_view tasks.now.over)
-        (optional with_view tasks.now.with) (body_view tasks.now.body)) walk.old walk.new) }
+fn coforall_tasks<'t>(walk: &mut Walk<'t>, around: Around<'t>, tasks: &Coforall<'t>) -> Stepped<'t>
+    ensures { OnOk result (WalksStmt around.entry (coforall_tree tasks.now) walk.old walk.new) }
 {
     let depth = walk.scopes.depth();
-    held(tasks.at, Holding::Coforall, &mut walk.deeds)?;
-    open_shared(
+    let Ok(()) = held(tasks.at, Holding::Coforall, &mut walk.deeds) else {
+        return Err(AllocError);
+    };
+    let Ok(_) = open_shared(
         walk,
         LoopWord::Coforall,
         &tasks.variables,
         &tasks.over,
         &tasks.with,
-    )?;
+    ) else {
+        return Err(AllocError);
+    };
     let start = walk.deeds.len();
-    with_deeds(&tasks.with, &mut walk.deeds)?;
+    let Ok(()) = with_deeds(&tasks.with, &mut walk.deeds) else {
+        return Err(AllocError);
+    };
     let inside = Around {
         forall: around.forall,
         in_task: true,
     };
-    body(walk, inside, &tasks.body)?;
+    let Ok(_) = body(walk, inside, &tasks.body) else {
+        return Err(AllocError);
+    };
     walk.scopes.leave();
     task_breaches(depth, behind(&walk.deeds, start), &mut walk.first);
-    Ok(())
+    Ok(Step::Nothing)
 }
 
-// `on`.
+// `on`, which isn't run.
 #[cycle(statement)]
-fn on_locale<'t>(walk: &mut Check<'t>, around: Around<'t>, there: &On<'t>) -> Walked
-    ensures { OnOk result (WalksStmt around.entry (OnTree there.now.at (expr_view there.now.locale.now) (body_view there.now.body)) walk.old walk.new) }
+fn on_locale<'t>(walk: &mut Walk<'t>, around: Around<'t>, there: &On<'t>) -> Stepped<'t>
+    ensures { OnOk result (WalksStmt around.entry (on_tree there.now) walk.old walk.new) }
 {
-    sent(walk, there.at, there.locale)?;
-    body(walk, around, &there.body)?;
-    Ok(())
+    let Ok(()) = sent(walk, there.at, there.locale) else {
+        return Err(AllocError);
+    };
+    let Ok(_) = body(walk, around, &there.body) else {
+        return Err(AllocError);
+    };
+    Ok(Step::Nothing)
 }

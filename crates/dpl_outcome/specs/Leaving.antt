@@ -10,7 +10,7 @@ use Rattle.dpl_scopes.specs.Slots.{slot_in}
 use Rattle.dpl_contents.specs.Range.{range_word}
 use Rattle.dpl_memory.specs.Memory.{DomainKind, ArrayKind, Variable, variable, int_leaf, truth_leaf, range_leaf, Held, Memory, no_array}
 use Rattle.dpl_memory.specs.Resolved.{array_content, content_in}
-use Rattle.dpl_typer.specs.Leaves.{type_in}
+use Rattle.dpl_typed.specs.Leaves.{type_in}
 use Rattle.dpl_outcome.specs.declared.left.Value.{Value}
 use Rattle.dpl_outcome.specs.declared.left.Value.TheVariants.{Int, Bool, Range, Domain, Ints, Bools}
 use Rattle.dpl_outcome.specs.declared.left.Variable.{Variable as LeftVariable}

@@ -6,7 +6,7 @@ ghost use Rattle.dpl_tree.specs.Statements.{stmt_view, stmts_of};
 ghost use Rattle.dpl_scopes.specs.Types.{type_view};
 ghost use Rattle.dpl_memory.specs.Memory.{int_leaf};
 ghost use Rattle.dpl_scopes.specs.Slots.{slot_in};
-ghost use Rattle.dpl_typer.specs.Leaves.{type_in};
+ghost use Rattle.dpl_typed.specs.Leaves.{type_in};
 ghost use Rattle.dpl_outcome.specs.Leaving.{value_held, content_kept, entry_kept, held_as, held_by, held_entry, held_frame};
 ghost use Rattle.dpl_outcome.specs.Names.{declared_by, declared_names};
 

@@ -17,11 +17,12 @@ use Rattle.dpl_scopes.specs.Slots.{slot_in}
 use Rattle.dpl_memory.specs.Memory.{VariableKind, DomainKind, TupleKind, ArrayKind, Memory}
 use Rattle.dpl_memory.specs.Resolved.{names_in_order, sighted, entry_in, frame_in}
 use Rattle.dpl_runnable.specs.Kinds.{IsDeclaredKind}
-use Rattle.dpl_typer.specs.Leaves.{is_rank, is_tuple_rank, kind_by, leaf_by}
-use Rattle.dpl_typer.specs.Shapes.{shape_by}
-use Rattle.dpl_typer.proofs.OperatorKinds.{kind_if-some}
-use Rattle.dpl_typer.specs.Sights.{bound_at, sighted_at, frame_from, sight_of, is_promoted_by, IsKnownScope, AreKnownScopes}
-use Rattle.dpl_typer.proofs.Sights.{HasKnownKind, lookup-known}
+use Rattle.dpl_typed.specs.Typed.{is_rank, is_tuple_rank}
+use Rattle.dpl_typed.specs.Leaves.{kind_by, leaf_by}
+use Rattle.dpl_bound.specs.Shapes.{shape_by}
+use Rattle.dpl_runnable.proofs.Kept.{kind_if-some}
+use Rattle.dpl_bound.specs.Sights.{bound_at, sighted_at, frame_from, sight_of, is_promoted_by, IsKnownScope, AreKnownScopes}
+use Rattle.dpl_runnable.proofs.Sights.{HasKnownKind, lookup-known}
 use Rattle.dpl_outcome.specs.Names.{declared_by, declared_names}
 use Rattle.dpl_outcome.specs.Leaving.{held_by, held_frame}
 use Rattle.dpl_run.specs.TopLevel.{sighted_in, IsLeft, AreLeft}

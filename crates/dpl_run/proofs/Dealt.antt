@@ -33,9 +33,9 @@ use Rattle.dpl_nodes.specs.declared.tree.DomainExpr.{DomainExpr}
 use Rattle.dpl_nodes.specs.declared.tree.RangeExpr.{RangeExpr, Local as RangeLocal, Between', Slice', Dimension'}
 use Rattle.dpl_says.specs.Given.{given}
 use Rattle.dpl_given.specs.Words.{words_in}
-use Rattle.dpl_runnable.specs.Bounds.{bound_program, slots_of}
+use Rattle.dpl_bound.specs.Bounds.{bound_program, slots_of}
 use Rattle.dpl_runnable.specs.Runnable.{AreRunnableTops}
-use Rattle.dpl_planner.proofs.Spelled.{program-spelled}
+use Rattle.dpl_runnable.proofs.Texts.{program-spelled}
 use Rattle.dpl_run.specs.Entered.{entered_all, Pairwise}
 use Rattle.dpl_run.specs.Recorded.{loop_of}
 use Rattle.dpl_run.specs.Dealing.{IsDealtAlike, DealsAsMeant, IsDealtAsCounted, DealsAsCounted}

@@ -40,15 +40,15 @@ use Rattle.dpl_agreement.specs.Renamed.{renamed_body}
 use Rattle.dpl_memory.specs.Memory.{DomainKind, TupleKind, ArrayKind, Variable}
 use Rattle.dpl_memory.specs.Resolved.{Bound, text_of, variable_of}
 use Rattle.dpl_readings.specs.Written.{slot_of}
-use Rattle.dpl_typer.specs.Makers.{kind_if}
-use Rattle.dpl_typer.specs.Leaves.{is_rank, is_tuple_rank, value_kind, kind_by}
-use Rattle.dpl_typer.specs.Sights.{is_promoted_type}
+use Rattle.dpl_typed.specs.Leaves.{kind_if, value_kind, kind_by}
+use Rattle.dpl_typed.specs.Typed.{is_rank, is_tuple_rank}
+use Rattle.dpl_bound.specs.Sights.{is_promoted_type}
 use Rattle.dpl_runnable.specs.Kinds.{IsNamed, AreVariables}
 use Rattle.dpl_runnable.proofs.Scopes.{top-variables, in_loop-variables}
 use Rattle.dpl_runnable.proofs.Changes.{runnable_element}
 use Rattle.dpl_runnable.proofs.Owed.{owed-holds}
 use Rattle.dpl_runnable.proofs.Reduced.{inside-outer, inside-loop}
-use Rattle.dpl_typer.proofs.Sights.{lookup-name}
+use Rattle.dpl_runnable.proofs.Sights.{lookup-name}
 use Rattle.dpl_runnable.proofs.Around.{Turning, forall_by, sight_by, Stands, MayDoIn, first-done, second-done, forall-refuted, enter-stands, loop-stands, behind-stands}
 
 -- ---- what is told first is the same

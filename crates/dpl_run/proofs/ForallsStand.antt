@@ -19,10 +19,10 @@ use Rattle.dpl_scopes.specs.Slots.{next_slot_in, slot_in}
 use Rattle.dpl_scopes.proofs.Slots.{slot_in-add}
 use Rattle.dpl_memory.specs.Memory.{VariableKind}
 use Rattle.dpl_memory.specs.Resolved.{Bound, Sighted, Sight, Known, known_in, innermost, bind, sighted, Seen, Start, resolving}
-use Rattle.dpl_typer.specs.Leaves.{kind_by, kind_in, leaf_by}
-use Rattle.dpl_typer.specs.Shapes.{shape_by, shape_in}
-use Rattle.dpl_typer.specs.Sights.{bound_in}
-use Rattle.dpl_runnable.specs.Bounds.{bound_new, loop_variable, bound_others, bound_variables, loop_type, bound_declare, bound_stmt, bound_body, bound_stmts, bound_else}
+use Rattle.dpl_typed.specs.Leaves.{kind_by, kind_in, leaf_by}
+use Rattle.dpl_bound.specs.Shapes.{shape_by, shape_in}
+use Rattle.dpl_bound.specs.Sights.{bound_in}
+use Rattle.dpl_bound.specs.Bounds.{bound_new, loop_variable, bound_others, bound_variables, loop_type, bound_declare, bound_stmt, bound_body, bound_stmts, bound_else}
 use Rattle.dpl_run.specs.Dealing.{IsAmong}
 use Rattle.dpl_run.proofs.EnteredAlike.{EachForall, EachInBody, EachAmong, EachInElse}
 

@@ -8,6 +8,7 @@ pub mod Meaning
 pub mod Stages
 pub mod Elsewhere
 pub mod Runnable
+pub mod Walking
 pub mod Declared
 -- By which array's map turns are dealt out is what the rules say.
 pub mod FirstWritten

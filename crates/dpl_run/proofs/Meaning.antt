@@ -34,10 +34,11 @@ use Rattle.dpl_says.specs.Given.{given, words_by}
 use Rattle.dpl_says.specs.Says.{Leaves, Faults, ending_of, run_of, Means}
 use Rattle.dpl_given.specs.Words.{words_in}
 use Rattle.dpl_given.proofs.Alike.{kind_as, given-alike}
-use Rattle.dpl_typer.specs.Leaves.{is_rank, is_tuple_rank, value_kind, kind_by}
-use Rattle.dpl_typer.proofs.OperatorKinds.{kind_if-some}
+use Rattle.dpl_typed.specs.Typed.{is_rank, is_tuple_rank}
+use Rattle.dpl_typed.specs.Leaves.{value_kind, kind_by}
+use Rattle.dpl_runnable.proofs.Kept.{kind_if-some}
 use Rattle.dpl_runnable.proofs.Expressions.{variable-cases}
-use Rattle.dpl_typer.specs.Sights.{sight_of, AreKnownScopes}
+use Rattle.dpl_bound.specs.Sights.{sight_of, AreKnownScopes}
 use Rattle.dpl_run.specs.Plans.{IsPlan, IsGivenAlike}
 use Rattle.dpl_loop.specs.Runs.{having_printed}
 use Rattle.dpl_outcome.specs.declared.outcome.Outcome.{Outcome}

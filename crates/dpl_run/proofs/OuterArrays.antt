@@ -23,13 +23,13 @@ use Rattle.dpl_scopes.specs.Slots.{slot_in}
 use Rattle.dpl_scopes.proofs.Slots.{slot_in-lookup}
 use Rattle.dpl_memory.specs.Memory.{ArrayKind}
 use Rattle.dpl_memory.specs.Resolved.{Bound, text_of}
-use Rattle.dpl_typer.specs.Leaves.{kind_by, kind_in, leaf_by}
-use Rattle.dpl_typer.specs.Sights.{bound_in}
+use Rattle.dpl_typed.specs.Leaves.{kind_by, kind_in, leaf_by}
+use Rattle.dpl_bound.specs.Sights.{bound_in}
 use Rattle.dpl_runnable.proofs.Scopes.{in_loop-variables}
 use Rattle.dpl_runnable.proofs.Changes.{runnable_element}
 use Rattle.dpl_runnable.proofs.Reduced.{inside-outer, inside-loop}
 use Rattle.dpl_runnable.proofs.Around.{Turning, forall_by, sight_by, Stands, MayDoIn, first-done, second-done, forall-refuted, enter-stands, loop-stands, behind-stands}
-use Rattle.dpl_runnable.specs.Bounds.{bound_stmt, bound_body, bound_stmts, bound_else}
+use Rattle.dpl_bound.specs.Bounds.{bound_stmt, bound_body, bound_stmts, bound_else}
 use Rattle.dpl_run.proofs.FirstWritten.{itself, bound_itself, AreWithin, IsLaw, named-array, within-behind, within-loop}
 
 -- ---- a resolved tree writes first what its text does

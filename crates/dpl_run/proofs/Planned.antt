@@ -1,4 +1,4 @@
--- The plan that the planner gives, from its clauses and three laws of trees; and that the sets of a program without a refusal fit it.
+-- The plan that the walk gives, from its clauses and three laws of trees; and that the sets of a program without a refusal fit it.
 -- A `config const` in sight is a plain variable, and has a slot.
 use Rattle.std.proofs.Common.{◌≡◌, ℕ, ◌≤◌, List, [], Bool, true, false, Option, Some, None, is_some, refl, sym, ap, ◌∙◌, subst}
 use Rattle.std.proofs.Math.Nat.{le_refl}
@@ -18,13 +18,13 @@ use Rattle.dpl_memory.specs.Memory.{PlainKind, known_variable}
 use Rattle.dpl_memory.specs.Resolved.{variable_of, Start, first_seen, resolving}
 use Rattle.dpl_nodes.specs.declared.step.Step.{Step}
 use Rattle.dpl_nodes.specs.Steps.{steps_of}
-use Rattle.dpl_typer.specs.Leaves.{kind_by, kind_in, leaf_by}
-use Rattle.dpl_typer.specs.Shapes.{shape_in}
-use Rattle.dpl_typer.specs.Sights.{bound_in, AreKnownScopes}
-use Rattle.dpl_runnable.specs.Bounds.{bound_program, slots_of}
+use Rattle.dpl_typed.specs.Leaves.{kind_by, kind_in, leaf_by}
+use Rattle.dpl_bound.specs.Shapes.{shape_in}
+use Rattle.dpl_bound.specs.Sights.{bound_in, AreKnownScopes}
+use Rattle.dpl_bound.specs.Bounds.{bound_program, slots_of}
 use Rattle.dpl_runnable.specs.Runnable.{AreRunnableTops}
 use Rattle.dpl_runnable.specs.Given.{IsGiven, IsConfig, AreGiven}
-use Rattle.dpl_planner.proofs.Spelled.{program-spelled}
+use Rattle.dpl_runnable.proofs.Texts.{program-spelled}
 use Rattle.dpl_runnable.proofs.Resolving.{program-known, program-resolves, program-left}
 use Rattle.dpl_run.specs.Plans.{IsPlan, IsGivenAlike}
 

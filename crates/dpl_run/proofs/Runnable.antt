@@ -1,4 +1,4 @@
--- A program that has no refusal runs: what the lexer, the grammar and the rules leave of it is what the planner takes.
+-- A program that has no refusal runs: what the lexer, the grammar and the rules leave of it is one, and plain, so that the walk makes its steps.
 -- Its places are near, since its text is short.
 use Rattle.std.proofs.Common.{◌≡◌, ℕ, suc, arith, List, [], ◌∷◌, ◌++◌, Option, Some, None, refl}
 use Rattle.dpl_syntax.specs.declared.place.Place.{Place}
@@ -18,9 +18,11 @@ use Rattle.dpl_rules.specs.Sound.{IsSound, sets_fit, behind_all, refusal_by}
 use Rattle.dpl_rules.proofs.Admission.{first_empty}
 use Rattle.dpl_rules.proofs.Soundness.{sound_exactly, sound_admitted}
 use Rattle.dpl_nodes.specs.Spots.{IsNear}
+use Rattle.dpl_checker.specs.Plain.{ArePlainStmts}
 use Rattle.dpl_runnable.specs.Runnable.{AreRunnableTops}
 use Rattle.dpl_runnable.proofs.Spelled.{Spells-written}
 use Rattle.dpl_runnable.proofs.Statements.{program-runnable}
+use Rattle.dpl_runnable.proofs.Plain.{tops-plain}
 use Rattle.dpl_agreement.specs.Untasked.{UntaskedStmts}
 use Rattle.dpl_says.proofs.Untasked.{stmts-untasked, Spells-untasked}
 use Rattle.dpl_run.specs.Headline.{IsProgram}
@@ -58,6 +60,9 @@ module _ (text : List ℕ) (sets : List (List ℕ)) (t : ProgramTree Text) (is :
 
   pub program-runs : AreRunnableTops top t.stmts
   program-runs = program-runnable t.stmts program-spelt program-untasked (Spells-written 64 is.tokens t is.spells) (walk-unbroken t program-sound)
+
+  pub program-plain : ArePlainStmts top t.stmts
+  program-plain = tops-plain t.stmts top (tt, tt) program-runs (Spells-written 64 is.tokens t is.spells)
 
   pub program-allowed : IsAllowed t
   program-allowed = record { sound = program-sound; admitted = sound_admitted t program-sound }

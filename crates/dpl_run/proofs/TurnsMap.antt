@@ -56,9 +56,9 @@ use Rattle.dpl_readings.specs.Written.{slot_of}
 use Rattle.dpl_nodes.specs.Roots.{slot_by, slot_of as kind_slot}
 use Rattle.dpl_frame.specs.Dealt.{slot_map, dealt_by}
 use Rattle.dpl_exchange.specs.Counts.{turns_map}
-use Rattle.dpl_typer.specs.Shapes.{shape_in}
-use Rattle.dpl_typer.specs.Sights.{bound_in}
-use Rattle.dpl_runnable.specs.Bounds.{bound_body, bound_stmts}
+use Rattle.dpl_bound.specs.Shapes.{shape_in}
+use Rattle.dpl_bound.specs.Sights.{bound_in}
+use Rattle.dpl_bound.specs.Bounds.{bound_body, bound_stmts}
 use Rattle.dpl_run.specs.Entered.{Entry, entered_all, Pairwise}
 use Rattle.dpl_run.specs.Recorded.{loop_of}
 use Rattle.dpl_run.specs.Dealing.{IsAmong, run_map, meant_map, IsDealtAlike}

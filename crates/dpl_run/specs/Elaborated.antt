@@ -5,8 +5,14 @@ use Rattle.dpl_tree.specs.Statements.{program_view}
 use Rattle.dpl_language.specs.Tree.{ProgramTree}
 use Rattle.dpl_language.specs.Names.{Text}
 use Rattle.dpl_rules.specs.Sights.{Scopes}
+use Rattle.dpl_rules.specs.Breaches.{top}
+use Rattle.dpl_rules.specs.Sound.{behind_all}
 use Rattle.dpl_given.specs.Words.{words_in}
 use Rattle.dpl_nodes.specs.declared.step.Step.{Step}
+use Rattle.dpl_nodes.specs.Steps.{steps_of}
+use Rattle.dpl_bound.specs.Bounds.{slots_of}
+use Rattle.dpl_bound.specs.Run.{stmts_leaves}
+use Rattle.dpl_checker.specs.declared.program.Walked.{Walked}
 use Rattle.dpl_run.specs.Headline.{IsProgram}
 use Rattle.dpl_run.specs.Plans.{IsPlan}
 use Rattle.dpl_run.specs.Programs.{CheckedProgram, IsAllowed}
@@ -15,6 +21,12 @@ use Rattle.dpl_run.specs.declared.checked.Checked.{Checked}
 -- the program of some text, which has no refusal
 abbrev pub IsUnrefused : ProgramTree Text → List (List ℕ) → Type 0
 IsUnrefused t sets = (text : List ℕ) × IsProgram text sets t
+
+-- what the walk over such a program gives: its steps, how many slots they need, and its top level
+pub record IsWalked (t : ProgramTree Text) (w : Walked) : Type 0 where
+  pub steps : stmts_leaves top t.stmts ≡ steps_of w.steps.now
+  pub slots : w.slots ≡ slots_of t
+  pub scopes : w.scopes ≡ behind_all top t.stmts
 
 pub record IsElaborated (t : ProgramTree Text) (sets : List (List ℕ)) (slots : ℕ) (scopes : Scopes) (steps : List Step) (words : List (ℕ × ℤ)) : Type 0 where
   pub unrefused : IsUnrefused t sets

@@ -1,5 +1,5 @@
 -- What a plan of a program is to whoever runs it: its names resolved, its steps, and the scopes that it leaves.
--- The planner promises each part of it by a clause of its own.
+-- The walk of the check promises each part of it by a clause of its own.
 use Rattle.std.specs.Prelude.{◌≡◌, ℕ, List, [], Some, None, option_map}
 use Rattle.dpl_language.specs.Tree.{ProgramTree}
 use Rattle.dpl_language.specs.Names.{Text, paired}
@@ -16,8 +16,8 @@ use Rattle.dpl_memory.specs.Memory.{PlainKind, known_variable}
 use Rattle.dpl_memory.specs.Resolved.{Bound, text_of, variable_of, Start, first_seen, resolving}
 use Rattle.dpl_nodes.specs.declared.step.Step.{Step}
 use Rattle.dpl_nodes.specs.Steps.{steps_of}
-use Rattle.dpl_typer.specs.Leaves.{kind_in}
-use Rattle.dpl_typer.specs.Sights.{sight_of, AreKnownScopes}
+use Rattle.dpl_typed.specs.Leaves.{kind_in}
+use Rattle.dpl_bound.specs.Sights.{sight_of, AreKnownScopes}
 
 -- by its slot each plain variable in sight is given what it is given by its text
 abbrev pub IsGivenAlike : Scopes → Start → Type 0

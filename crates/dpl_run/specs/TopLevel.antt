@@ -5,8 +5,8 @@ use Rattle.dpl_agreement.specs.Scopes.{PlainForm}
 use Rattle.dpl_rules.specs.Sights.{Declared, Scopes, lookup}
 use Rattle.dpl_memory.specs.Memory.{VariableKind}
 use Rattle.dpl_memory.specs.Resolved.{Sighted, sighted}
-use Rattle.dpl_typer.specs.Leaves.{kind_by}
-use Rattle.dpl_typer.specs.Sights.{bound_in}
+use Rattle.dpl_typed.specs.Leaves.{kind_by}
+use Rattle.dpl_bound.specs.Sights.{bound_in}
 use Rattle.dpl_runnable.specs.Kinds.{IsDeclaredKind}
 
 -- a name of the top level, as it is in sight; over which domain an array is makes no difference to what it holds

@@ -2,7 +2,7 @@
 // Read `run_text`, whose contract is the theorem, and then `Config`, `Out` and `Outcome`, which it speaks of. It is made of `check`, which takes a
 // tree or refuses it, and `run_checked`, whose contract is the theorem of a checked program.
 // That what `run` of dpl_program gives, through the plan, is what the program means is a page of proof (proofs/Meaning.antt): desugaring,
-// the simulation of names by a memory, and what the planner promises, one after another.
+// the simulation of names by a memory, and what the walk of the check promises, one after another.
 #![tactic(auto)]
 
 mod checked;

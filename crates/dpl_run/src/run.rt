@@ -10,7 +10,7 @@ ghost use Rattle.dpl_memory.specs.Memory.{in_memory};
 ghost use Rattle.dpl_standing.specs.Standing.{Outside};
 ghost use Rattle.dpl_loop.specs.Entries.{MayRefuseSome};
 ghost use Rattle.dpl_readings.specs.Readings.{steps_in};
-ghost use Rattle.dpl_typer.specs.Sights.{AreKnownScopes};
+ghost use Rattle.dpl_bound.specs.Sights.{AreKnownScopes};
 ghost use Rattle.dpl_run.specs.TopLevel.{AreLeft};
 ghost use Rattle.dpl_run.specs.Elaborated.{IsChecked, program_of};
 ghost use Rattle.dpl_run.specs.Programs.{Runs};

@@ -20,8 +20,8 @@ use Rattle.dpl_rules.specs.Breaches.{stmt_breaches}
 use Rattle.dpl_rules.proofs.Admission.{first_empty, second_empty}
 use Rattle.dpl_memory.specs.Memory.{VariableKind}
 use Rattle.dpl_memory.specs.Resolved.{Bound}
-use Rattle.dpl_typer.specs.Leaves.{kind_in}
-use Rattle.dpl_typer.specs.Sights.{bound_in}
+use Rattle.dpl_typed.specs.Leaves.{kind_in}
+use Rattle.dpl_bound.specs.Sights.{bound_in}
 use Rattle.dpl_runnable.specs.Kinds.{AreVariables, IsScalarKind}
 use Rattle.dpl_runnable.specs.Runnable.{IsReduced}
 use Rattle.dpl_runnable.proofs.Scopes.{enter-variables, in_loop-variables, declaration-variables}

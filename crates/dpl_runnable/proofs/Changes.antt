@@ -21,16 +21,16 @@ use Rattle.dpl_sound.proofs.Known.{told-typed, post-told}
 use Rattle.dpl_words.specs.Words.{IntLeaf, TruthLeaf, RangeLeaf, LocaleLeaf}
 use Rattle.dpl_memory.specs.Memory.{VariableKind, PlainKind, DomainKind, TupleKind, CellKind, ArrayKind}
 use Rattle.dpl_memory.specs.Resolved.{Bound, kind_takes}
-use Rattle.dpl_typer.specs.Makers.{leaf_of}
-use Rattle.dpl_typer.specs.Leaves.{value_kind, kind_by, type_in, kind_in}
-use Rattle.dpl_typer.specs.Sights.{is_promoted_type}
-use Rattle.dpl_typer.specs.Shapes.{takes_shape, IsTaken}
-use Rattle.dpl_typer.proofs.OperatorKinds.{kind-same}
+use Rattle.dpl_runnable.specs.Kinds.{leaf_of, IsNamed, AreVariables, IsScalarKind, IsAssignedKind, IsGivenTo}
+use Rattle.dpl_typed.specs.Leaves.{value_kind, kind_by, type_in, kind_in, IsFound}
+use Rattle.dpl_typed.specs.Simple.{AreSimpleExprs}
+use Rattle.dpl_bound.specs.Sights.{is_promoted_type}
+use Rattle.dpl_bound.specs.Shapes.{takes_shape, IsTaken}
+use Rattle.dpl_runnable.proofs.Kept.{kind-same}
 use Rattle.dpl_nodes.specs.Spots.{IsNear}
-use Rattle.dpl_runnable.specs.Kinds.{IsNamed, AreVariables, IsScalarKind, IsAssignedKind, IsGivenTo}
 use Rattle.dpl_runnable.specs.Runnable.{IsReduced, IsReducedBy, IsRunnableChange, IsRunnableElement}
-use Rattle.dpl_runnable.proofs.Named.{item-plain, exprs-plain}
-use Rattle.dpl_runnable.proofs.Expressions.{kind-cases, known, name_verdict-type, RunnableItem, RunnableExprs, runnable_exprs}
+use Rattle.dpl_runnable.proofs.Kept.{kind-cases}
+use Rattle.dpl_runnable.proofs.Expressions.{known, name_verdict-type, RunnableItem, runnable_exprs}
 use Rattle.dpl_runnable.proofs.Arrays.{IsElementOf, round_verdict-element}
 use Rattle.dpl_runnable.proofs.Owed.{owed_type-holds, is_scalar-is, scalar-by, is_domain-kind, scalar-leaf, array-kind, is_scalar-given, is_domain_of-given, fits_array-given}
 use Rattle.dpl_runnable.proofs.Scopes.{side-item, runnable_side}
@@ -170,8 +170,8 @@ untasked scopes forall = record { scopes = scopes; forall = forall; in_task = fa
 module _ (scopes : Scopes) (names : AreVariables scopes) (forall : Option Reducing) where
   -- ---- assignments to elements
   -- the target's type has elements, and one of them fits what it is given
-  element-runnable : (x : Text) (es : Exprs Text) (sign : AssignTree) (item : ItemTree Text) → ExprsSpelt IsNear ⊥ es → ItemSpelt IsNear ⊥ item → RunnableExprs scopes IsNear names es → RunnableItem scopes IsNear names item
-      → (t : ValueType) (k : VariableKind) → type_in scopes x ≡ Some t → value_kind t ≡ Some k → (w : ValueType) → IsElementOf t (expr_parts scopes es) w
+  element-runnable : (x : Text) (es : Exprs Text) (sign : AssignTree) (item : ItemTree Text) → ExprsSpelt IsNear ⊥ es → ItemSpelt IsNear ⊥ item → AreSimpleExprs (IsFound scopes) es → RunnableItem scopes IsNear names item
+      → (t : ValueType) (k : VariableKind) → type_in scopes x ≡ Some t → value_kind t ≡ Some k → (w : ValueType) → IsElementOf t w
       → fitting_target sign false (side_part scopes item) (Some w) ≡ [] → IsRunnableElement scopes x es sign.op item
   element-runnable x es sign item r s index value t k is of_kind w element h =
       let l = element.kind in
@@ -186,12 +186,9 @@ module _ (scopes : Scopes) (names : AreVariables scopes) (forall : Option Reduci
       record {
         kind = l;
         target = subst (λ o. kind_by o ≡ Some (ArrayKind l)) (sym is) (subst (λ k. value_kind t ≡ Some k) (sym one) of_kind);
-        simple = exprs-plain scopes es index.found;
-        found = index.found;
+        found = index;
         near = r;
-        index = element.index;
         item = record {
-          simple = item-plain scopes item value.found;
           found = value.found;
           kind = subst (λ o. kind_by o ≡ Some (PlainKind (leaf_of l))) (sym typed) (subst (λ u. value_kind u ≡ Some (PlainKind (leaf_of l))) (sym (is_scalar-is l u fitting.scalar)) (scalar-leaf l));
           near = s;
@@ -260,7 +257,7 @@ module _ (scopes : Scopes) (names : AreVariables scopes) (forall : Option Reduci
           kind = p.kind;
           target = kind;
           given = q.kind;
-          item = record { simple = item-plain scopes item value.found; found = value.found; kind = ap kind_by q.is ∙ q.of_kind; near = s };
+          item = record { found = value.found; kind = ap kind_by q.is ∙ q.of_kind; near = s };
           takes = taken.given;
           shaped = λ t e. subst (IsTaken scopes item) (some-same p.type t (sym p.is ∙ e)) (q.type, q.is, taken.shaped);
           assigned = taken.assigned;

@@ -16,14 +16,13 @@ use Rattle.dpl_scopes.proofs.Slots.{slot_in-lookup}
 use Rattle.dpl_words.specs.Words.{IntLeaf, TruthLeaf, RangeLeaf, LocaleLeaf, intent_at}
 use Rattle.dpl_memory.specs.Memory.{VariableKind, PlainKind, DomainKind, TupleKind, CellKind, ArrayKind, Variable, variable, intents_by_slot}
 use Rattle.dpl_memory.specs.Resolved.{Bound, Seen, Start, text_of, variable_of, resolving, kind_takes, KindCombines, IntentResolves, ArraysResolve, Suits, SuitsElement}
-use Rattle.dpl_typer.specs.Makers.{leaf_of, is_promoted}
-use Rattle.dpl_typer.specs.Leaves.{kind_by, type_in, kind_in, leaf_by, leaf_in, IsFound}
-use Rattle.dpl_typer.specs.Shapes.{shape_by, shape_in, IsTaken}
-use Rattle.dpl_typer.specs.Sights.{bound_in, AreKnownScopes}
-use Rattle.dpl_typer.proofs.Sights.{innermost-found}
-use Rattle.dpl_runnable.specs.Kinds.{IsAssignedKind, IsGivenTo}
+use Rattle.dpl_runnable.specs.Kinds.{leaf_of, is_promoted, IsAssignedKind, IsGivenTo}
+use Rattle.dpl_typed.specs.Leaves.{kind_by, type_in, kind_in, leaf_by, leaf_in, IsFound}
+use Rattle.dpl_bound.specs.Shapes.{shape_by, shape_in, IsTaken}
+use Rattle.dpl_bound.specs.Sights.{bound_in, AreKnownScopes}
+use Rattle.dpl_runnable.proofs.Sights.{innermost-found}
 use Rattle.dpl_runnable.specs.Runnable.{IsItemOf, AreToldAlike, IsReducedBy, IsRunnableChange, IsRunnableElement}
-use Rattle.dpl_runnable.specs.Bounds.{arrays_at, with_arrays, assigned_in, bound_stmt}
+use Rattle.dpl_bound.specs.Bounds.{arrays_at, with_arrays, assigned_in, bound_stmt}
 use Rattle.dpl_runnable.specs.InSight.{seen_of}
 use Rattle.dpl_runnable.proofs.Reduced.{slot-found}
 use Rattle.dpl_runnable.proofs.Singles.{some-type}

@@ -13,10 +13,10 @@ use Rattle.dpl_rules.specs.Sound.{is_configured, behind_all}
 use Rattle.dpl_rules.specs.Declarations.{sort_of, declared_by}
 use Rattle.dpl_scopes.specs.Slots.{count_in, place_in, slot_or, slot_in}
 use Rattle.dpl_memory.specs.Resolved.{Bound, Start}
-use Rattle.dpl_typer.specs.Leaves.{kind_by, leaf_by}
-use Rattle.dpl_typer.specs.Shapes.{shape_by}
-use Rattle.dpl_typer.specs.Sights.{bound_in, bound_at, AreKnownScopes}
-use Rattle.dpl_runnable.specs.Bounds.{bound_new}
+use Rattle.dpl_typed.specs.Leaves.{kind_by, leaf_by}
+use Rattle.dpl_bound.specs.Shapes.{shape_by}
+use Rattle.dpl_bound.specs.Sights.{bound_in, bound_at, AreKnownScopes}
+use Rattle.dpl_bound.specs.Bounds.{bound_new}
 use Rattle.dpl_runnable.specs.Given.{IsOfLeaf, IsGiven, IsConfig, AreGiven}
 use Rattle.dpl_runnable.specs.InSight.{AreOpen, IsOneScope, AreOwed, IsOwedBy, IsOwed}
 use Rattle.dpl_runnable.proofs.Scoped.{unfound, next_open, added-new, behind-cases}

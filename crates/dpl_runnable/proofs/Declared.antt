@@ -27,17 +27,17 @@ use Rattle.dpl_rules.proofs.Admission.{first_empty, second_empty}
 use Rattle.dpl_sound.proofs.Given.{some-same, owed_not-holds}
 use Rattle.dpl_words.specs.Words.{RangeLeaf}
 use Rattle.dpl_memory.specs.Memory.{VariableKind, PlainKind, DomainKind}
-use Rattle.dpl_typer.specs.Leaves.{value_kind, kind_by}
-use Rattle.dpl_typer.specs.Shapes.{takes_shape}
-use Rattle.dpl_typer.proofs.OperatorKinds.{kind-same}
+use Rattle.dpl_typed.specs.Leaves.{value_kind, kind_by}
+use Rattle.dpl_bound.specs.Shapes.{takes_shape}
+use Rattle.dpl_runnable.proofs.Kept.{kind-same}
 use Rattle.dpl_nodes.specs.Spots.{IsNear}
 use Rattle.dpl_runnable.specs.Kinds.{IsVariable, AreVariables, IsScalarKind, IsDeclaredKind, IsGivenTo}
 use Rattle.dpl_runnable.specs.Runnable.{IsRunnableType, IsFoundType, IsInitOf, IsInitialOf, IsShapedInit, IsShapedInitial, IsConfigOf, IsRunnableDeclare}
-use Rattle.dpl_runnable.proofs.Named.{item-plain, items-plain}
-use Rattle.dpl_runnable.proofs.Expressions.{kind-cases, RunnableItem, runnable_items}
+use Rattle.dpl_runnable.proofs.Kept.{kind-cases}
+use Rattle.dpl_runnable.proofs.Expressions.{RunnableItem, runnable_items}
 use Rattle.dpl_runnable.proofs.Owed.{owed_type-holds, scalar-by, is_any_scalar-kind, is_domain-kind, same-given, is_scalar-given, is_domain_of-given, fits_array-given}
 use Rattle.dpl_runnable.proofs.Arrays.{over-spread, created-kind, over_domain-array, array_type-kind}
-use Rattle.dpl_runnable.proofs.Maps.{untyped-created, written-maps, written-beside}
+use Rattle.dpl_runnable.proofs.Maps.{untyped-created, maps-found}
 use Rattle.dpl_runnable.proofs.Scopes.{is_untyped-kept, side-item, runnable_side, domain_type-rank, declared_by-variable}
 
 -- ---- kinds
@@ -63,7 +63,7 @@ module _ (scopes : Scopes) (names : AreVariables scopes) where
   type-runnable (DomainType d) s c h = domain_type-rank scopes IsNear names d h
   type-runnable (ArrayType a) s c h =
       let own = first_empty (items_breaches scopes a.over) (broken_by (over_verdict a.from (item_parts scopes a.over))) h in
-      (items-plain scopes a.over (runnable_items scopes IsNear names a.over s.1 c own).found, s.1, s.0)
+      (s.1, s.0)
 
   -- the names between an array's brackets
   type-found : (t : TypeTree Text) → TypeSpelt IsNear ⊥ t → UntaskedType t → type_breaches scopes t ≡ [] → IsFoundType scopes (Some t)
@@ -71,7 +71,7 @@ module _ (scopes : Scopes) (names : AreVariables scopes) where
   type-found (SyncType at kind_at k) s c h = absurd c
   type-found (DomainType d) s c h = tt
   type-found (ArrayType a) s c h =
-      (runnable_items scopes IsNear names a.over s.1 c (first_empty (items_breaches scopes a.over) (broken_by (over_verdict a.from (item_parts scopes a.over))) h)).found
+      runnable_items scopes IsNear names a.over s.1 c (first_empty (items_breaches scopes a.over) (broken_by (over_verdict a.from (item_parts scopes a.over))) h)
 
   written-found : (w : Option (TypedTree Text)) (i : Option (InitialTree Text)) (self : Origin) → IfThere (TypedSpelt IsNear ⊥) w → UntaskedIf UntaskedTyped w
       → written_breaches scopes self (written_type w) i ≡ [] → IsFoundType scopes (written_type w)
@@ -99,12 +99,12 @@ module _ (scopes : Scopes) (names : AreVariables scopes) where
       let kept = owed_type (is_untyped mapped) (first_of_item item) (side_part scopes item).type in
       let told = first_empty side kept (first_empty (side ++ kept) (mapped_breaches scopes (type_rank (side_part scopes item).type) mapped) h) in
       let found = (runnable_side scopes IsNear names item s.0 c.0 told).found in
-      (k, record { simple = item-plain scopes item found; found = found; kind = side-kind item k e; near = s.0 }, same-given k k refl)
+      (k, record { found = found; kind = side-kind item k e; near = s.0 }, same-given k k refl)
   untyped-init (CreateInit m) k s c h e =
       let own = first_empty (items_breaches scopes m.items) (broken_by (over_verdict m.from (item_parts scopes m.items))) h in
       let kind = created-kind scopes IsNear names m.from m.items s.4 c h in
-      let found = (runnable_items scopes IsNear names m.items s.4 c own).found in
-      (record { simple = items-plain scopes m.items found; found = found; kind = kind; near = s.4; from = s.3 }, kind-same k DomainKind (sym e ∙ kind))
+      let found = runnable_items scopes IsNear names m.items s.4 c own in
+      (record { found = found; kind = kind; near = s.4; from = s.3 }, kind-same k DomainKind (sym e ∙ kind))
 
   -- beside a type a value that is written is of a type that may be given to it at first
   record IsFirst (t : ValueType) (item : ItemTree Text) : Type 0 where
@@ -127,7 +127,7 @@ module _ (scopes : Scopes) (names : AreVariables scopes) where
   typed-init t k fits (ItemInit item mapped) s c h =
       let first = typed-first t item mapped s c h in
       let p = first.value.variable in
-      (p.kind, record { simple = item-plain scopes item first.value.found; found = first.value.found; kind = ap kind_by p.is ∙ p.of_kind; near = s.0 }, fits p.type p.kind p.of_kind first.fit)
+      (p.kind, record { found = first.value.found; kind = ap kind_by p.is ∙ p.of_kind; near = s.0 }, fits p.type p.kind p.of_kind first.fit)
   typed-init t k fits (CreateInit m) s c h = absurd (untyped-created scopes (Some t) m h)
 
   type-initial : (t : TypeTree Text) (i : Option (InitialTree Text)) (self : Origin) (k : VariableKind) → IfThere (InitialSpelt IsNear ⊥) i → UntaskedType t → UntaskedIf UntaskedInitial i
@@ -251,8 +251,6 @@ module _ (scopes : Scopes) (names : AreVariables scopes) where
         kept = written-kept d.typed d.initial self variable s.0 s.5 typed initial told;
         shaped = λ t e. subst (IsShapedInitial scopes d.initial) (some-same declared.type t (sym declared.is ∙ e)) (written-shaped d.typed d.initial self variable s.5 typed initial told);
         fresh = owed_not-holds (declared_here scopes d.name.name) d.name.at NameTwice (first_empty once written front);
-        maps = (written-maps scopes names d.typed d.initial self s.4 s.5 typed initial told).0;
-        found = (written-maps scopes names d.typed d.initial self s.4 s.5 typed initial told).1;
-        beside = written-beside scopes names d.typed d.initial self variable s.0 s.5 typed initial told;
+        found = maps-found scopes names d.typed d.initial self s.4 s.5 typed initial told;
         config = config-kind d.config d self variable s.0 typed (second_empty (once ++ written) config h);
       }

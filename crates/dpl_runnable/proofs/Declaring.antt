@@ -25,17 +25,18 @@ use Rattle.dpl_scopes.specs.Slots.{next_slot_in}
 use Rattle.dpl_words.specs.Words.{IntLeaf, TruthLeaf}
 use Rattle.dpl_memory.specs.Memory.{VariableKind, PlainKind, DomainKind, ArrayKind, Variable, variable}
 use Rattle.dpl_memory.specs.Resolved.{Bound, Seen, Start, resolving, IsElement, MayHold, IsNew, Declares, IsWhole, OverResolves, Spans, SpansArray, Suits}
-use Rattle.dpl_typer.specs.Leaves.{is_rank, value_kind, kind_by, leaf_by, IsFound}
-use Rattle.dpl_typer.specs.Shapes.{shape_of, shape_by}
-use Rattle.dpl_typer.specs.Simple.{AreSimpleItems}
-use Rattle.dpl_typer.specs.Sights.{bound_in, is_promoted_by, AreKnownScopes}
-use Rattle.dpl_typer.proofs.OperatorKinds.{kind-same, kind_if-some}
-use Rattle.dpl_typer.proofs.Sights.{unused_next}
-use Rattle.dpl_typer.proofs.Shaped.{typed-held}
-use Rattle.dpl_typer.proofs.Arrays.{spans-array, spans-created}
-use Rattle.dpl_typer.proofs.Overs.{over-resolves}
+use Rattle.dpl_typed.specs.Typed.{is_rank}
+use Rattle.dpl_typed.specs.Leaves.{value_kind, kind_by, leaf_by, IsFound}
+use Rattle.dpl_bound.specs.Shapes.{shape_of, shape_by}
+use Rattle.dpl_typed.specs.Simple.{AreSimpleItems}
+use Rattle.dpl_bound.specs.Sights.{bound_in, is_promoted_by, AreKnownScopes}
+use Rattle.dpl_runnable.proofs.Kept.{kind-same, kind_if-some}
+use Rattle.dpl_runnable.proofs.Sights.{unused_next}
+use Rattle.dpl_runnable.proofs.Shaped.{typed-held}
+use Rattle.dpl_runnable.proofs.SuitedArrays.{spans-array, spans-created}
+use Rattle.dpl_runnable.proofs.Overs.{over-resolves}
 use Rattle.dpl_runnable.specs.Runnable.{IsRunnableType, IsFoundType, IsInitOf, IsInitialOf, IsShapedInit, IsShapedInitial, IsConfigOf, IsRunnableDeclare}
-use Rattle.dpl_runnable.specs.Bounds.{bound_new, bound_stmt}
+use Rattle.dpl_bound.specs.Bounds.{bound_new, bound_stmt}
 use Rattle.dpl_runnable.specs.Given.{IsOfLeaf}
 use Rattle.dpl_runnable.specs.InSight.{seen_of, AreOpen, IsOwedBy, IsOwed, IsSingleKind, IsNoArrayType, bound_typed, bound_initial}
 use Rattle.dpl_runnable.proofs.Scoped.{plain-add, new-no_array, single-type, unless-both, array-typed}

@@ -12,61 +12,35 @@ use Rattle.dpl_language.specs.Tree.{MethodTree, Plainly, Dim, Contains, Expand, 
 use Rattle.dpl_language.specs.Names.{Text}
 use Rattle.dpl_spelling.specs.Spelt.{Level, Conjunctions, Disjunctions, level_of, AreOfLevel, IsOneLevel, ExprSpelt, ItemSpelt, StrideSpelt, LinksSpelt, PostsSpelt, PostSpelt, MethodSpelt, ItemsSpelt, MoreItemsSpelt, ExprsSpelt, MoreExprsSpelt}
 use Rattle.dpl_agreement.specs.Untasked.{UntaskedExpr, UntaskedItem, UntaskedStride, UntaskedLinks, UntaskedPosts, UntaskedPost, UntaskedMethod, UntaskedItems, UntaskedMoreItems, UntaskedExprs, UntaskedMoreExprs}
-use Rattle.dpl_rules.specs.Types.{Over, ValueType, Scalar, Range as RangeType, Domain, Array, Promoted, Tuple, Locale, AllLocales, Cell, an_int, a_bool, is_range}
+use Rattle.dpl_rules.specs.Types.{ValueType, Scalar, Range as RangeType, Domain, Array, Promoted, Tuple, Locale, AllLocales, Cell, an_int, a_bool, is_range}
 use Rattle.dpl_syntax.specs.declared.refusal.Code.TheVariants.{WrongRank}
 use Rattle.dpl_rules.specs.Verdicts.{Part, part, type_by, broken_by, owed, with_type, all_known, each_wanted}
 use Rattle.dpl_rules.specs.Places.{first_of, last_of, last_of_post}
 use Rattle.dpl_rules.specs.Sights.{Declared, Scopes, lookup, type_declared}
 use Rattle.dpl_rules.specs.Operators.{prefix_verdict, reduction_verdict, infix_verdict, any_strided, ranges_breaches, ranges_verdict}
-use Rattle.dpl_rules.specs.Expressions.{plain_name, name_verdict, bare_locales, locales_or, none_where, type_of, item_type, range_item_verdict, chain_type, posts_type, post_verdict, method_verdict, item_parts, more_item_parts, expr_parts, more_expr_parts}
+use Rattle.dpl_rules.specs.Expressions.{plain_name, name_verdict, bare_locales, locales_or, none_where, type_of, item_type, range_item_verdict, chain_type, posts_type, post_verdict, method_verdict, item_parts, more_item_parts, expr_parts}
 use Rattle.dpl_rules.specs.Expressions.{expr_breaches, item_breaches, stride_breaches, chain_breaches, posts_breaches, post_breaches, method_breaches, items_breaches, more_items_breaches, exprs_breaches, more_exprs_breaches}
 use Rattle.dpl_rules.proofs.Admission.{first_empty, second_empty}
-use Rattle.dpl_sound.proofs.Given.{judged-gives}
+use Rattle.dpl_sound.proofs.Given.{some-same, judged-gives}
 use Rattle.dpl_sound.proofs.Known.{IsTyped, told-typed, AreKnown, infix-by, post-told, type_of-known, item_type-known}
 use Rattle.dpl_scopes.specs.Slots.{slot_in}
 use Rattle.dpl_scopes.proofs.Slots.{slot_in-lookup}
 use Rattle.dpl_lowered.specs.Shapes.{passes_on, all_pass_on, nests}
-use Rattle.dpl_words.specs.Words.{IntLeaf, TruthLeaf, RangeLeaf}
+use Rattle.dpl_words.specs.Words.{IntLeaf, TruthLeaf}
 use Rattle.dpl_memory.specs.Memory.{VariableKind, PlainKind, DomainKind, TupleKind, ArrayKind}
-use Rattle.dpl_typer.specs.Makers.{is_promoted, prefix_kind, reduced_kind, infix_kind, literal_kind, square_kind, round_kind, word_kind, contains_kind, dim_kind, expand_kind}
-use Rattle.dpl_typer.specs.Leaves.{is_rank, is_tuple_rank, value_kind, kind_by, IsOfKind, IsFound}
-use Rattle.dpl_typer.specs.Simple.{IsSimple, IsSimpleItem, IsSimpleStride, AreSimpleLinks, AreSimplePosts, IsSimplePost, AreSimpleItems, AreSimpleMoreItems, AreSimpleExprs, AreSimpleMoreExprs}
-use Rattle.dpl_typer.specs.Elaborated.{AreOfKinds}
-use Rattle.dpl_typer.proofs.OperatorKinds.{IsNew, Gives, kind_if-some, prefix-gives, reduction-gives, infix-gives}
-use Rattle.dpl_typer.proofs.PartKinds.{range_item-new, literal-gives}
-use Rattle.dpl_typer.proofs.BaseKinds.{IsBase, word-gives, contains-gives, square-gives, round-gives, dim-gives, expand-gives}
-use Rattle.dpl_runnable.specs.Kinds.{IsVariable, IsNamed, AreVariables}
+use Rattle.dpl_runnable.specs.Kinds.{is_promoted, IsVariable, IsNamed, AreVariables, HasKind}
+use Rattle.dpl_typed.specs.Typed.{is_rank, is_tuple_rank}
+use Rattle.dpl_typed.specs.Leaves.{value_kind, kind_by, IsFound}
+use Rattle.dpl_typed.specs.Simple.{IsSimple, IsSimpleItem, IsSimpleStride, AreSimpleLinks, AreSimplePosts, IsSimplePost, AreSimpleItems, AreSimpleMoreItems, AreSimpleExprs, AreSimpleMoreExprs}
+use Rattle.dpl_runnable.proofs.Kept.{kind_if-some, kind-cases, domain-kind, judged-kind, prefix-kind, reduction-kind, infix-kind, range-kind, square-kind, round-kind, word-kind, dim-kind, contains-kind, expand-kind}
 use Rattle.dpl_runnable.proofs.Owed.{owed-holds}
 
 -- ---- types that have kinds
-pub variable-kind : (o : Option ValueType) (p : IsVariable o) → IsOfKind p.kind o
-variable-kind o p = subst (IsOfKind p.kind) (sym p.is) p.of_kind
+pub has-kind : (o : Option ValueType) → IsVariable o → HasKind o
+has-kind o p t e = (p.kind, ap value_kind (sym (some-same p.type t (sym p.is ∙ e))) ∙ p.of_kind)
 
-variable-base : (o : Option ValueType) (p : IsVariable o) → IsBase true p.kind o
-variable-base o p = subst (IsBase true p.kind) (sym p.is) (p.of_kind, λ e. refl)
-
--- what a form gives has a kind, where it has a type
-new-variable : (k : VariableKind) (o : Option ValueType) → IsNew k o → IsTyped o → IsVariable o
-new-variable k None h p = absurd (none-some p.0 p.1)
-new-variable k (Some t) h p = record { kind = k; type = t; is = refl; of_kind = h.0 }
-
-gives-variable : (g : Option VariableKind) (o : Option ValueType) → Gives g o → IsTyped o → IsVariable o
-gives-variable None o h p = absurd (none-some p.0 (sym h ∙ p.1))
-gives-variable (Some k) o h p = new-variable k o h p
-
--- What holds of ints and truth values, of ranges, domains, arrays, promoted values and tuples holds of each type that has a kind.
-pub kind-cases : (Q : ValueType → Type 0) → ((l : Kind) → Q (Scalar l)) → ((s : Bool) → Q (RangeType s)) → ((rank : ℕ) (s : Bool) → is_rank rank ≡ true → Q (Domain rank s))
-    → ((l : Kind) (over : Over) → is_rank over.rank ≡ true → Q (Array l over)) → ((l : Kind) (over : Over) → is_rank over.rank ≡ true → Q (Promoted l over))
-    → ((rank : ℕ) → is_tuple_rank rank ≡ true → Q (Tuple rank)) → (t : ValueType) (k : VariableKind) → value_kind t ≡ Some k → Q t
-kind-cases Q q r d a p u (Scalar l) k e = q l
-kind-cases Q q r d a p u (RangeType s) k e = r s
-kind-cases Q q r d a p u (Domain rank s) k e = d rank s (kind_if-some (is_rank rank) DomainKind k e).0
-kind-cases Q q r d a p u (Array l over) k e = a l over (kind_if-some (is_rank over.rank) (ArrayKind l) k e).0
-kind-cases Q q r d a p u (Promoted l over) k e = p l over (kind_if-some (is_rank over.rank) (ArrayKind l) k e).0
-kind-cases Q q r d a p u (Tuple rank) k e = u rank (kind_if-some (is_tuple_rank rank) TupleKind k e).0
-kind-cases Q q r d a p u Locale k e = absurd (none-some k e)
-kind-cases Q q r d a p u AllLocales k e = absurd (none-some k e)
-kind-cases Q q r d a p u (Cell l) k e = absurd (none-some k e)
+variable : (o : Option ValueType) → HasKind o → IsTyped o → IsVariable o
+variable o h typed = let k = h typed.0 typed.1 in record { kind = k.0; type = typed.0; is = typed.1; of_kind = k.1 }
 
 -- What holds of all but arrays and promoted values holds of each type that has a kind which is no array's.
 pub variable-cases : (Q : ValueType → Type 0) → ((l : Kind) → Q (Scalar l)) → ((s : Bool) → Q (RangeType s)) → ((rank : ℕ) (s : Bool) → is_rank rank ≡ true → Q (Domain rank s))
@@ -209,27 +183,6 @@ module _ (scopes : Scopes) (P : Place → Type 0) (names : AreVariables scopes) 
     found : IsSimplePost (IsFound scopes) p
     variable : IsVariable (type_by (post_verdict scopes last p o))
 
-  -- between brackets
-  pub record RunnableItems (items : Items Text) : Type 0 where
-    pub found : AreSimpleItems (IsFound scopes) items
-    pub kinds : List VariableKind
-    pub of_kinds : AreOfKinds kinds (item_parts scopes items)
-
-  record RunnableMoreItems (more : MoreItems Text) : Type 0 where
-    found : AreSimpleMoreItems (IsFound scopes) more
-    kinds : List VariableKind
-    of_kinds : AreOfKinds kinds (more_item_parts scopes more)
-
-  pub record RunnableExprs (es : Exprs Text) : Type 0 where
-    pub found : AreSimpleExprs (IsFound scopes) es
-    pub kinds : List VariableKind
-    pub of_kinds : AreOfKinds kinds (expr_parts scopes es)
-
-  record RunnableMoreExprs (more : MoreExprs Text) : Type 0 where
-    found : AreSimpleMoreExprs (IsFound scopes) more
-    kinds : List VariableKind
-    of_kinds : AreOfKinds kinds (more_expr_parts scopes more)
-
   -- ---- names
   some-found : (o : Option ℕ) → is_some o ≡ true → (slot : ℕ) × (o ≡ Some slot)
   some-found None e = absurd cc
@@ -246,6 +199,11 @@ module _ (scopes : Scopes) (P : Place → Type 0) (names : AreVariables scopes) 
   name-variable : (at : Place) (o : Option Declared) → ((d : Declared) → o ≡ Some d → IsNamed d.type) → IsTyped (type_by (name_verdict at o)) → IsVariable (type_by (name_verdict at o))
   name-variable at None h p = absurd (none-some p.0 p.1)
   name-variable at (Some d) h p = let q = h d refl in record { kind = q.kind; type = q.type; is = name_verdict-type at d q; of_kind = q.of_kind }
+
+  -- a range, by its ends and perhaps by a stride
+  range_item-kind : (low high : Part) (by : Stride Text) → HasKind (type_by (range_item_verdict scopes low high by))
+  range_item-kind low high NoStride = range-kind (low ∷ high ∷ []) false
+  range_item-kind low high (By at e) = range-kind (low ∷ high ∷ part (first_of e) (type_of scopes e) ∷ []) true
 
   -- a cell read is no method of a value
   read-untyped : (at : Place) (w : ReadWord) (from upto : Place) (o : Option ValueType) → type_by (with_type o (method_verdict scopes (CellRead at w from upto))) ≡ None
@@ -265,33 +223,28 @@ module _ (scopes : Scopes) (P : Place → Type 0) (names : AreVariables scopes) 
     runnable (HereWord at) s c h = absurd c
     runnable (Grouped from item upto) s c h = let i = runnable_item item s.1 c h in record { found = i.found; variable = i.variable }
     runnable (DomainLiteral from items upto) s c h =
-        let verdict = ranges_verdict from (item_parts scopes items) in
+        let ps = item_parts scopes items in
+        let verdict = ranges_verdict from ps in
         let typed = type_of-known scopes known (DomainLiteral from items upto) h in
-        let ranges = runnable_items items s.1 c (first_empty (items_breaches scopes items) (broken_by verdict) h) in
         record {
-          found = ranges.found;
-          variable = gives-variable (literal_kind ranges.kinds) (type_by verdict)
-              (literal-gives from ranges.kinds (item_parts scopes items) ranges.of_kinds (literal-rank scopes items (few from (item_parts scopes items) typed))) typed;
+          found = runnable_items items s.1 c (first_empty (items_breaches scopes items) (broken_by verdict) h);
+          variable = variable (type_by verdict)
+              (judged-kind (all_known ps) (ranges_breaches from ps) (Domain (length ps) (any_strided ps))
+              (DomainKind, domain-kind (length ps) (any_strided ps) (literal-rank scopes items (few from ps typed)))) typed;
         }
     runnable (Prefixed at op e) s c h =
         let verdict = prefix_verdict at op (type_of scopes e) in
         let operand = runnable e s.1 c (first_empty (expr_breaches scopes e) (broken_by verdict) h) in
-        let kind = operand.variable.kind in
         record {
           found = operand.found;
-          variable = gives-variable (prefix_kind op kind) (type_by verdict)
-              (prefix-gives op at kind (type_of scopes e) (variable-kind (type_of scopes e) operand.variable))
-              (type_of-known scopes known (Prefixed at op e) h);
+          variable = variable (type_by verdict) (prefix-kind at op (type_of scopes e) (has-kind (type_of scopes e) operand.variable)) (type_of-known scopes known (Prefixed at op e) h);
         }
     runnable (Reduced at op word e) s c h =
         let verdict = reduction_verdict at op (type_of scopes e) in
         let operand = runnable e s.2 c (first_empty (expr_breaches scopes e) (broken_by verdict) h) in
-        let kind = operand.variable.kind in
         record {
           found = operand.found;
-          variable = gives-variable (reduced_kind op kind) (type_by verdict)
-              (reduction-gives op at kind (type_of scopes e) (variable-kind (type_of scopes e) operand.variable))
-              (type_of-known scopes known (Reduced at op word e) h);
+          variable = variable (type_by verdict) (reduction-kind at op (type_of scopes e) (has-kind (type_of scopes e) operand.variable)) (type_of-known scopes known (Reduced at op word e) h);
         }
     runnable (Chain e rest) s c h =
         let told = chain_breaches scopes (type_of scopes e) rest in
@@ -322,8 +275,8 @@ module _ (scopes : Scopes) (P : Place → Type 0) (names : AreVariables scopes) 
         let z = runnable_stride by s.4 c.2 (second_empty ends (stride_breaches scopes by) parts) in
         record {
           found = (x.found, y.found, z);
-          variable = new-variable (PlainKind RangeLeaf) (type_by verdict)
-              (range_item-new scopes (part (first_of low) (type_of scopes low)) (part (first_of high) (type_of scopes high)) by) (item_type-known scopes known (RangeItem low at dots high by) h);
+          variable = variable (type_by verdict) (range_item-kind (part (first_of low) (type_of scopes low)) (part (first_of high) (type_of scopes high)) by)
+              (item_type-known scopes known (RangeItem low at dots high by) h);
         }
 
     runnable_stride : (by : Stride Text) → StrideSpelt P ⊥ by → UntaskedStride by → stride_breaches scopes by ≡ [] → IsSimpleStride (IsFound scopes) by
@@ -339,8 +292,7 @@ module _ (scopes : Scopes) (P : Place → Type 0) (names : AreVariables scopes) 
         let right = runnable e s.1 c.0 (first_empty (expr_breaches scopes e) (broken_by verdict) front) in
         let q = right.variable in
         let typed = told-typed verdict (infix-by scopes known at op o (type_of scopes e) (p.type, p.is) (q.type, q.is)) (second_empty (expr_breaches scopes e) (broken_by verdict) front) in
-        let next = gives-variable (infix_kind op p.kind q.kind) (type_by verdict)
-        (infix-gives op at p.kind q.kind o (type_of scopes e) (variable-kind o p) (variable-kind (type_of scopes e) q)) typed in
+        let next = variable (type_by verdict) (infix-kind at op o (type_of scopes e) (has-kind o p) (has-kind (type_of scopes e) q)) typed in
         let more = runnable_links rest (type_by verdict) next s.2 c.1 (second_empty (expr_breaches scopes e ++ broken_by verdict) others h) in
         record { found = (right.found, more.found); variable = more.variable }
 
@@ -359,71 +311,53 @@ module _ (scopes : Scopes) (P : Place → Type 0) (names : AreVariables scopes) 
 
     runnable_post : (q : PostTree Text) (last : Place) (o : Option ValueType) → IsVariable o → PostSpelt P ⊥ q → UntaskedPost q → post_breaches scopes q ≡ [] → IsTyped (type_by (post_verdict scopes last q o))
         → RunnablePost last o q
-    runnable_post (Brackets from items upto) last o p s c h typed =
-        let between = runnable_items items s.1 c h in
-        record {
-          found = between.found;
-          variable = gives-variable (square_kind true p.kind between.kinds) _
-              (square-gives last from (item_parts scopes items) true p.kind between.kinds o (variable-base o p) between.of_kinds) typed;
-        }
-    runnable_post (Rounds from es upto) last o p s c h typed =
-        let between = runnable_exprs es s.1 c h in
-        record {
-          found = between.found;
-          variable = gives-variable (round_kind true p.kind between.kinds) _
-              (round-gives last from (expr_parts scopes es) true p.kind between.kinds o (variable-base o p) between.of_kinds) typed;
-        }
+    runnable_post (Brackets from items upto) last o p s c h typed = record {
+      found = runnable_items items s.1 c h;
+      variable = variable _ (square-kind last from (item_parts scopes items) o (has-kind o p)) typed;
+    }
+    runnable_post (Rounds from es upto) last o p s c h typed = record {
+      found = runnable_exprs es s.1 c h;
+      variable = variable _ (round-kind last from (expr_parts scopes es) o (has-kind o p)) typed;
+    }
     runnable_post (Dotted dot m) last o p s c h typed = runnable_method dot m last o p s.1 c h typed
 
     runnable_method : (dot : Place) (m : MethodTree Text) (last : Place) (o : Option ValueType) → IsVariable o → MethodSpelt P ⊥ m → UntaskedMethod m → method_breaches scopes m ≡ []
         → IsTyped (type_by (post_verdict scopes last (Dotted dot m) o)) → RunnablePost last o (Dotted dot m)
-    runnable_method dot (Plainly at w) last o p s c h typed = record {
-      found = tt;
-      variable = gives-variable (word_kind w true p.kind) _ (word-gives at w true p.kind o (variable-base o p)) typed;
+    runnable_method dot (Plainly at w) last o p s c h typed = record { found = tt; variable = variable _ (word-kind at w o (has-kind o p)) typed }
+    runnable_method dot (Dim at from rank_at d upto) last o p s c h typed = record { found = tt; variable = variable _ (dim-kind at rank_at d o (has-kind o p)) typed }
+    runnable_method dot (Contains at from es upto) last o p s c h typed = record {
+      found = runnable_exprs es s.2 c h;
+      variable = variable _ (contains-kind at (expr_parts scopes es) o (has-kind o p)) typed;
     }
-    runnable_method dot (Dim at from rank_at d upto) last o p s c h typed = record {
-      found = tt;
-      variable = gives-variable (dim_kind d p.kind) _ (dim-gives at rank_at d true p.kind o (variable-base o p)) typed;
+    runnable_method dot (Expand at from e upto) last o p s c h typed = record {
+      found = (runnable e s.2 c h).found;
+      variable = variable _ (expand-kind at (part (first_of e) (type_of scopes e)) o (has-kind o p)) typed;
     }
-    runnable_method dot (Contains at from es upto) last o p s c h typed =
-        let index = runnable_exprs es s.2 c h in
-        record {
-          found = index.found;
-          variable = gives-variable (contains_kind p.kind index.kinds) _
-              (contains-gives last from (expr_parts scopes es) at true p.kind index.kinds o (variable-base o p) index.of_kinds) typed;
-        }
-    runnable_method dot (Expand at from e upto) last o p s c h typed =
-        let by = runnable e s.2 c h in
-        record {
-          found = by.found;
-          variable = gives-variable (expand_kind p.kind by.variable.kind) _
-              (expand-gives at (first_of e) true p.kind by.variable.kind o (type_of scopes e) (variable-base o p) (variable-kind (type_of scopes e) by.variable)) typed;
-        }
     runnable_method dot (CellRead at w from upto) last o p s c h typed = absurd (none-some typed.0 (sym (read-untyped at w from upto o) ∙ typed.1))
 
     -- ---- between brackets
-    pub runnable_items : (items : Items Text) → ItemsSpelt P ⊥ items → UntaskedItems items → items_breaches scopes items ≡ [] → RunnableItems items
-    runnable_items (FirstItem i more) s c h =
-        let first = runnable_item i s.0 c.0 (first_empty (item_breaches scopes i) (more_items_breaches scopes more) h) in
-        let others = runnable_more_items more s.1 c.1 (second_empty (item_breaches scopes i) (more_items_breaches scopes more) h) in
-        record { found = (first.found, others.found); kinds = first.variable.kind ∷ others.kinds; of_kinds = (variable-kind (item_type scopes i) first.variable, others.of_kinds) }
+    pub runnable_items : (items : Items Text) → ItemsSpelt P ⊥ items → UntaskedItems items → items_breaches scopes items ≡ [] → AreSimpleItems (IsFound scopes) items
+    runnable_items (FirstItem i more) s c h = (
+      (runnable_item i s.0 c.0 (first_empty (item_breaches scopes i) (more_items_breaches scopes more) h)).found,
+      runnable_more_items more s.1 c.1 (second_empty (item_breaches scopes i) (more_items_breaches scopes more) h),
+    )
 
-    runnable_more_items : (more : MoreItems Text) → MoreItemsSpelt P ⊥ more → UntaskedMoreItems more → more_items_breaches scopes more ≡ [] → RunnableMoreItems more
-    runnable_more_items NoItems s c h = record { found = tt; kinds = []; of_kinds = tt }
-    runnable_more_items (NextItem comma i more) s c h =
-        let first = runnable_item i s.1 c.0 (first_empty (item_breaches scopes i) (more_items_breaches scopes more) h) in
-        let others = runnable_more_items more s.2 c.1 (second_empty (item_breaches scopes i) (more_items_breaches scopes more) h) in
-        record { found = (first.found, others.found); kinds = first.variable.kind ∷ others.kinds; of_kinds = (variable-kind (item_type scopes i) first.variable, others.of_kinds) }
+    runnable_more_items : (more : MoreItems Text) → MoreItemsSpelt P ⊥ more → UntaskedMoreItems more → more_items_breaches scopes more ≡ [] → AreSimpleMoreItems (IsFound scopes) more
+    runnable_more_items NoItems s c h = tt
+    runnable_more_items (NextItem comma i more) s c h = (
+      (runnable_item i s.1 c.0 (first_empty (item_breaches scopes i) (more_items_breaches scopes more) h)).found,
+      runnable_more_items more s.2 c.1 (second_empty (item_breaches scopes i) (more_items_breaches scopes more) h),
+    )
 
-    pub runnable_exprs : (es : Exprs Text) → ExprsSpelt P ⊥ es → UntaskedExprs es → exprs_breaches scopes es ≡ [] → RunnableExprs es
-    runnable_exprs (FirstExpr e more) s c h =
-        let first = runnable e s.0 c.0 (first_empty (expr_breaches scopes e) (more_exprs_breaches scopes more) h) in
-        let others = runnable_more_exprs more s.1 c.1 (second_empty (expr_breaches scopes e) (more_exprs_breaches scopes more) h) in
-        record { found = (first.found, others.found); kinds = first.variable.kind ∷ others.kinds; of_kinds = (variable-kind (type_of scopes e) first.variable, others.of_kinds) }
+    pub runnable_exprs : (es : Exprs Text) → ExprsSpelt P ⊥ es → UntaskedExprs es → exprs_breaches scopes es ≡ [] → AreSimpleExprs (IsFound scopes) es
+    runnable_exprs (FirstExpr e more) s c h = (
+      (runnable e s.0 c.0 (first_empty (expr_breaches scopes e) (more_exprs_breaches scopes more) h)).found,
+      runnable_more_exprs more s.1 c.1 (second_empty (expr_breaches scopes e) (more_exprs_breaches scopes more) h),
+    )
 
-    runnable_more_exprs : (more : MoreExprs Text) → MoreExprsSpelt P ⊥ more → UntaskedMoreExprs more → more_exprs_breaches scopes more ≡ [] → RunnableMoreExprs more
-    runnable_more_exprs NoExprs s c h = record { found = tt; kinds = []; of_kinds = tt }
-    runnable_more_exprs (NextExpr comma e more) s c h =
-        let first = runnable e s.1 c.0 (first_empty (expr_breaches scopes e) (more_exprs_breaches scopes more) h) in
-        let others = runnable_more_exprs more s.2 c.1 (second_empty (expr_breaches scopes e) (more_exprs_breaches scopes more) h) in
-        record { found = (first.found, others.found); kinds = first.variable.kind ∷ others.kinds; of_kinds = (variable-kind (type_of scopes e) first.variable, others.of_kinds) }
+    runnable_more_exprs : (more : MoreExprs Text) → MoreExprsSpelt P ⊥ more → UntaskedMoreExprs more → more_exprs_breaches scopes more ≡ [] → AreSimpleMoreExprs (IsFound scopes) more
+    runnable_more_exprs NoExprs s c h = tt
+    runnable_more_exprs (NextExpr comma e more) s c h = (
+      (runnable e s.1 c.0 (first_empty (expr_breaches scopes e) (more_exprs_breaches scopes more) h)).found,
+      runnable_more_exprs more s.2 c.1 (second_empty (expr_breaches scopes e) (more_exprs_breaches scopes more) h),
+    )

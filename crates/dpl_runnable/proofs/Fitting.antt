@@ -14,15 +14,15 @@ use Rattle.dpl_rules.specs.Sights.{Scopes}
 use Rattle.dpl_lowered.specs.Shapes.{nowhere}
 use Rattle.dpl_memory.specs.Resolved.{Bound, Seen, Start, resolving, Resolves}
 use Rattle.dpl_memory.proofs.Fitting.{NamesAre, expr_fits, item_fits}
-use Rattle.dpl_typer.specs.Leaves.{IsFound}
-use Rattle.dpl_typer.specs.Simple.{IsSimple, IsSimpleItem, AreSimpleItems, AreSimpleExprs, AreSimpleMoreExprs}
-use Rattle.dpl_typer.specs.Sights.{bound_in, AreKnownScopes}
-use Rattle.dpl_typer.proofs.Fits.{names-simple, expr_names-simple, unread-simple}
-use Rattle.dpl_placing.specs.Starts.{more_exprs, IsSimpleStart}
-use Rattle.dpl_placing.specs.Named.{IsSimpleMap}
-use Rattle.dpl_placing.specs.Roots.{IsFoundIn, AreFoundMaps}
+use Rattle.dpl_typed.specs.Leaves.{IsFound}
+use Rattle.dpl_typed.specs.Simple.{IsSimple, IsSimpleItem, AreSimpleItems, AreSimpleExprs, AreSimpleMoreExprs}
+use Rattle.dpl_bound.specs.Sights.{bound_in, AreKnownScopes}
+use Rattle.dpl_runnable.proofs.Fits.{names-simple, expr_names-simple, unread-simple}
+use Rattle.dpl_mapped.specs.Starts.{more_exprs}
+use Rattle.dpl_mapped.specs.Starts.{IsSimpleStart}
+use Rattle.dpl_mapped.specs.Named.{IsSimpleMap}
+use Rattle.dpl_runnable.specs.Runnable.{IsFoundMap, AreFoundMaps, IsRunnableArgument, AreRunnableArguments}
 use Rattle.dpl_runnable.specs.InSight.{seen_of, bound_typed, bound_initial}
-use Rattle.dpl_runnable.specs.Runnable.{IsRunnableArgument, AreRunnableArguments}
 
 -- what is simple reads no cell, with its names resolved too
 pub item-unread : (ss : Scopes) (i : ItemTree Text) → IsSimpleItem (IsFound ss) i → item_read (renamed_item (bound_in ss) i) ≡ None
@@ -99,15 +99,15 @@ module _ (start : Start) (ss : Scopes) (known : AreKnownScopes ss) (intents : Li
   map-fits (CyclicMap m) found = start-fits m.start found
   map-fits (BlockCyclicMap m) found = (start-fits m.start found.0, start-fits m.size found.1)
 
-  mapped-fits : (o : Option (MappedTree Text)) → IsFoundIn ss o → fits_mapped (resolving start) (option_map (renamed_mapped (bound_in ss)) o) here
+  mapped-fits : (o : Option (MappedTree Text)) → IsFoundMap ss o → fits_mapped (resolving start) (option_map (renamed_mapped (bound_in ss)) o) here
   mapped-fits None found = tt
-  mapped-fits (Some m) found = map-fits m.map found
+  mapped-fits (Some m) found = map-fits m.map found.0
 
-  init-fits : (i : InitTree Text) → IsFoundIn ss (init_map i) → fits_mapped (resolving start) (init_map (renamed_init (bound_in ss) i)) here
+  init-fits : (i : InitTree Text) → IsFoundMap ss (init_map i) → fits_mapped (resolving start) (init_map (renamed_init (bound_in ss) i)) here
   init-fits (ItemInit item mapped) found = mapped-fits mapped found
   init-fits (CreateInit c) found = tt
 
-  initial-fits : (i : Option (InitialTree Text)) → IsFoundIn ss (initial_map i) → fits_mapped (resolving start) (initial_map (bound_initial ss i)) here
+  initial-fits : (i : Option (InitialTree Text)) → IsFoundMap ss (initial_map i) → fits_mapped (resolving start) (initial_map (bound_initial ss i)) here
   initial-fits None found = tt
   initial-fits (Some i) found = init-fits i.init found
 

@@ -1,8 +1,7 @@
 -- The head of a loop that runs: it is over a range or a domain, its variables have a type, and each has a name of its own.
 -- So its variables are new in the loop's scope, and of the kinds that turns give.
-use Rattle.std.proofs.Common.{◌≡◌, ◌≢◌, ◌⊎◌, inl, inr, ℕ, Bool, true, false, List, [], ◌∷◌, Option, Some, None, refl, sym, ap, ◌∙◌, subst}
+use Rattle.std.proofs.Common.{◌≡◌, ◌⊎◌, inl, inr, ℕ, Bool, true, false, List, [], ◌∷◌, Option, Some, None, refl, sym, ap, ◌∙◌, subst}
 use Rattle.std.specs.Prelude.{◌==◌, not, if◌then◌else◌}
-use Rattle.std.proofs.lemmas.Option.{none-some}
 use Rattle.dpl_syntax.specs.declared.refusal.Code.TheVariants.{NameTwice}
 use Rattle.dpl_language.specs.Tree.{Placed, ExprTree, Number, TruthWord, Named, LocalesWord, LocaleCount, HereWord, Grouped, DomainLiteral, Prefixed, Reduced, Chain, Postfixed, ItemTree, One, RangeItem, VariablesTree, OneVariable, ManyVariables}
 use Rattle.dpl_language.specs.Names.{Text}
@@ -13,17 +12,16 @@ use Rattle.dpl_rules.specs.Sights.{LoopVariable, Scopes, declared_here, enter, a
 use Rattle.dpl_rules.specs.Expressions.{item_type}
 use Rattle.dpl_rules.specs.Loops.{LoopWord, ForWord, ForallWord, one_type, variable_type, fits_variables, typed_variable, each_once, variables_of, over_type}
 use Rattle.dpl_rules.proofs.Admission.{first_empty, second_empty}
-use Rattle.dpl_sound.proofs.Given.{some-same, owed_not-holds}
+use Rattle.dpl_sound.proofs.Given.{owed_not-holds}
 use Rattle.dpl_sound.proofs.Loops.{SameNames, same_names-add}
-use Rattle.dpl_words.specs.Words.{RangeLeaf}
-use Rattle.dpl_memory.specs.Memory.{VariableKind, PlainKind, DomainKind, TupleKind}
-use Rattle.dpl_typer.specs.Makers.{kind_if}
-use Rattle.dpl_typer.specs.Simple.{IsSimple, IsSimpleItem}
-use Rattle.dpl_typer.specs.Leaves.{is_rank, value_kind, kind_by}
-use Rattle.dpl_typer.proofs.OperatorKinds.{kind_if-some}
-use Rattle.dpl_runnable.specs.Bounds.{loop_variable, loop_type}
+use Rattle.dpl_memory.specs.Memory.{VariableKind, DomainKind, TupleKind}
+use Rattle.dpl_typed.specs.Leaves.{kind_if, value_kind, kind_by}
+use Rattle.dpl_typed.specs.Simple.{IsSimple, IsSimpleItem}
+use Rattle.dpl_typed.specs.Typed.{is_rank}
+use Rattle.dpl_runnable.proofs.Kept.{kind_if-some}
+use Rattle.dpl_bound.specs.Bounds.{loop_variable, loop_type}
 use Rattle.dpl_runnable.specs.InSight.{IsTurnKind, AreTurnKinds, AreFresh}
-use Rattle.dpl_runnable.specs.Runnable.{IsItemOf, IsOneVariable, RunsOver, IsRunnableHeader}
+use Rattle.dpl_runnable.specs.Runnable.{IsOneVariable, RunsOver, IsRunnableHeader}
 use Rattle.dpl_runnable.proofs.Scopes.{two_or_three}
 
 -- WHAT A LOOP RUNS OVER is no bare word
@@ -97,58 +95,17 @@ runs-typed word which xs Locale k runs e = absurd runs
 runs-typed word which xs AllLocales k runs e = absurd runs
 runs-typed word which xs (Cell l) k runs e = absurd runs
 
-runs-kind : (xs : VariablesTree Text) (u : ValueType) (k : VariableKind) → RunsOver xs u → value_kind u ≡ Some k → (k ≡ PlainKind RangeLeaf) ⊎ (k ≡ DomainKind)
-runs-kind xs (Range strided) k runs e = inl (sym (some-same (PlainKind RangeLeaf) k e))
-runs-kind xs (Domain rank strided) k runs e = inr (sym (kind_if-some (is_rank rank) DomainKind k e).1)
-runs-kind xs (Scalar l) k runs e = absurd runs
-runs-kind xs (Array l o) k runs e = absurd runs
-runs-kind xs (Promoted l o) k runs e = absurd runs
-runs-kind xs (Tuple rank) k runs e = absurd runs
-runs-kind xs Locale k runs e = absurd runs
-runs-kind xs AllLocales k runs e = absurd runs
-runs-kind xs (Cell l) k runs e = absurd runs
-
--- over a range there is one variable, which is an int
-pub runs-one : (xs : VariablesTree Text) (u : ValueType) → RunsOver xs u → value_kind u ≡ Some (PlainKind RangeLeaf) → IsOneVariable xs × ((word : LoopWord) → (t : ValueType) → typed_variable word xs (Some u) ≡ Some t → t ≡ an_int)
-runs-one (OneVariable x) (Range strided) runs e = (tt, λ word t typed. sym (some-same an_int t typed))
-runs-one (ManyVariables from xs upto) (Range strided) runs e = absurd runs
-runs-one xs (Domain rank strided) runs e = absurd (let f : DomainKind ≡ PlainKind RangeLeaf = (kind_if-some (is_rank rank) DomainKind (PlainKind RangeLeaf) e).1 in cc)
-runs-one xs (Scalar l) runs e = absurd runs
-runs-one xs (Array l o) runs e = absurd runs
-runs-one xs (Promoted l o) runs e = absurd runs
-runs-one xs (Tuple rank) runs e = absurd runs
-runs-one xs Locale runs e = absurd runs
-runs-one xs AllLocales runs e = absurd runs
-runs-one xs (Cell l) runs e = absurd runs
-
 module _ (ss : Scopes) (xs : VariablesTree Text) (item : ItemTree Text) (h : IsRunnableHeader ss xs item) where
   pub of_kind : value_kind h.type ≡ Some h.kind
   of_kind = ap kind_by (sym h.is) ∙ h.over.kind
 
-  pub header-over : IsItemOf ss item (PlainKind RangeLeaf) ⊎ IsItemOf ss item DomainKind
-  header-over = by (runs-kind xs h.type h.kind h.runs of_kind)
-    where
-      by : (h.kind ≡ PlainKind RangeLeaf) ⊎ (h.kind ≡ DomainKind) → IsItemOf ss item (PlainKind RangeLeaf) ⊎ IsItemOf ss item DomainKind
-      by (inl is) = inl (subst (IsItemOf ss item) is h.over)
-      by (inr is) = inr (subst (IsItemOf ss item) is h.over)
-
   pub over-known : over_type ss item ≡ Some h.type
-  over-known = over-simple _ ss item h.over.simple ∙ h.is
+  over-known = over-simple _ ss item h.over.found ∙ h.is
 
   pub header-typed : (word : LoopWord) → (word ≡ ForWord) ⊎ (word ≡ ForallWord) → (t : ValueType) × (loop_type ss word xs item ≡ Some t) × AreTurnKinds xs (value_kind t)
   header-typed word which =
       let typed = runs-typed word which xs h.type h.kind h.runs of_kind in
       (typed.0, ap (typed_variable word xs) over-known ∙ typed.1, typed.2)
-
-  pub header-untyped : (word : LoopWord) → (word ≡ ForWord) ⊎ (word ≡ ForallWord) → loop_type ss word xs item ≢ None
-  header-untyped word which none =
-      let typed = header-typed word which in
-      none-some typed.0 (sym none ∙ typed.1)
-
-  pub header-kinds : (word : LoopWord) → (word ≡ ForWord) ⊎ (word ≡ ForallWord) → (t : ValueType) → loop_type ss word xs item ≡ Some t → AreTurnKinds xs (value_kind t)
-  header-kinds word which t e =
-      let typed = header-typed word which in
-      subst (λ t. AreTurnKinds xs (value_kind t)) (some-same typed.0 t (sym typed.1 ∙ e)) typed.2
 
   pub header-fresh : (t : Option ValueType) → AreFresh t (variables_of xs) (enter ss)
   header-fresh t = once-fresh ss xs t h.once

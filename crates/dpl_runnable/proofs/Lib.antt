@@ -1,6 +1,14 @@
+-- Types that have kinds; and what holds of values by them.
+pub mod Kept
+pub mod Operands
+pub mod Formed
+pub mod Sights
+pub mod Shaped
+pub mod Fits
+pub mod Overs
+pub mod SuitedArrays
 -- Expressions, and what stands behind declarations and in loops.
 pub mod Expressions
-pub mod Named
 pub mod Scopes
 -- The parts of statements.
 pub mod Owed
@@ -16,6 +24,7 @@ pub mod Around
 -- Programs, and what the grammar says of them.
 pub mod Statements
 pub mod Spelled
+pub mod Texts
 -- What is in sight with names resolved, and what the command line owes it.
 pub mod Scoped
 pub mod Configs
@@ -29,3 +38,5 @@ pub mod Suiting
 pub mod Declaring
 pub mod Changing
 pub mod Resolving
+-- And it is plain, so that the walk over it makes its steps.
+pub mod Plain

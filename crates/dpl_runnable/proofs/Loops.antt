@@ -11,13 +11,13 @@ use Rattle.dpl_rules.specs.Sights.{Scopes, enter}
 use Rattle.dpl_rules.specs.Loops.{LoopWord, fits_variables, header_of, over_type, over_breaches, header_breaches, each_once, variables_of}
 use Rattle.dpl_rules.proofs.Admission.{first_empty, second_empty}
 use Rattle.dpl_memory.specs.Memory.{VariableKind}
-use Rattle.dpl_typer.specs.Leaves.{value_kind, kind_by}
+use Rattle.dpl_typed.specs.Leaves.{value_kind, kind_by}
 use Rattle.dpl_nodes.specs.Spots.{IsNear}
 use Rattle.dpl_runnable.specs.Kinds.{AreVariables}
 use Rattle.dpl_runnable.specs.Runnable.{IsOneVariable, RunsOver, IsRunnableHeader}
 use Rattle.dpl_runnable.specs.Written.{HasSeveral}
-use Rattle.dpl_runnable.proofs.Named.{item-plain}
-use Rattle.dpl_runnable.proofs.Expressions.{two_or_more, kind-cases}
+use Rattle.dpl_runnable.proofs.Kept.{kind-cases}
+use Rattle.dpl_runnable.proofs.Expressions.{two_or_more}
 use Rattle.dpl_runnable.proofs.Scopes.{IsTurned, header-turned, runs_over-nothing, over-type, runnable_over}
 
 -- ranges give one value a turn
@@ -47,7 +47,7 @@ runnable_header scopes names word xs item several s c h =
     let told = subst (λ o. header_of word xs item o ≡ []) (over-type scopes IsNear names item c ∙ p.is) (second_empty over head front) in
     record {
       kind = p.kind;
-      over = record { simple = item-plain scopes item value.found; found = value.found; kind = ap kind_by p.is ∙ p.of_kind; near = s };
+      over = record { found = value.found; kind = ap kind_by p.is ∙ p.of_kind; near = s };
       type = p.type;
       is = p.is;
       runs = header-runs word xs several p.type p.kind p.of_kind (header-turned word xs item p.type told);

@@ -11,10 +11,10 @@ use Rattle.dpl_rules.specs.Verdicts.{owed, owed_type}
 use Rattle.dpl_words.specs.Words.{IntLeaf, TruthLeaf}
 use Rattle.dpl_sound.proofs.Given.{both_so}
 use Rattle.dpl_memory.specs.Memory.{VariableKind, PlainKind, DomainKind, TupleKind, CellKind, ArrayKind}
-use Rattle.dpl_typer.specs.Makers.{leaf_of}
-use Rattle.dpl_typer.specs.Leaves.{is_rank, value_kind}
-use Rattle.dpl_typer.proofs.OperatorKinds.{kind-same, kind_if-some}
-use Rattle.dpl_runnable.specs.Kinds.{IsScalarKind, IsGivenTo}
+use Rattle.dpl_runnable.specs.Kinds.{leaf_of, IsScalarKind, IsGivenTo}
+use Rattle.dpl_typed.specs.Typed.{is_rank}
+use Rattle.dpl_typed.specs.Leaves.{value_kind}
+use Rattle.dpl_runnable.proofs.Kept.{kind-same, kind_if-some}
 
 pub owed-holds : (b : Bool) (at : Place) (code : Code) → owed b at code ≡ [] → b ≡ true
 owed-holds true at code h = refl

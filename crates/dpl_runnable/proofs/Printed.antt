@@ -17,12 +17,12 @@ use Rattle.dpl_rules.specs.Assignments.{is_printed, printed_breaches, condition_
 use Rattle.dpl_rules.proofs.Admission.{first_empty, second_empty}
 use Rattle.dpl_words.specs.Words.{IntLeaf, TruthLeaf, RangeLeaf, LocaleLeaf}
 use Rattle.dpl_memory.specs.Memory.{VariableKind, PlainKind, DomainKind, TupleKind, CellKind, ArrayKind}
-use Rattle.dpl_typer.specs.Leaves.{value_kind, kind_by}
+use Rattle.dpl_typed.specs.Leaves.{value_kind, kind_by}
 use Rattle.dpl_nodes.specs.Spots.{IsNear}
 use Rattle.dpl_runnable.specs.Kinds.{AreVariables, IsScalarKind}
 use Rattle.dpl_runnable.specs.Runnable.{IsExprOf, IsShown, IsRunnableArgument, AreRunnableArguments}
-use Rattle.dpl_runnable.proofs.Named.{expr-plain}
-use Rattle.dpl_runnable.proofs.Expressions.{kind-cases, runnable}
+use Rattle.dpl_runnable.proofs.Kept.{kind-cases}
+use Rattle.dpl_runnable.proofs.Expressions.{runnable}
 use Rattle.dpl_runnable.proofs.Owed.{owed_type-holds, is_scalar-is, scalar-by, is_any_scalar-kind, array-kind}
 use Rattle.dpl_runnable.proofs.Scopes.{side-item, runnable_side}
 use Rattle.dpl_runnable.proofs.Changes.{untasked}
@@ -77,7 +77,7 @@ module _ (scopes : Scopes) (names : AreVariables scopes) (forall : Option Reduci
       (side-item scopes IsNear names (One e) ∙ p.is) (second_empty side printed front) in
       record {
         kind = p.kind;
-        expr = record { simple = expr-plain scopes e value.found; found = value.found; kind = ap kind_by p.is ∙ p.of_kind; near = s };
+        expr = record { found = value.found; kind = ap kind_by p.is ∙ p.of_kind; near = s };
         shown = is_printed-shown p.type p.kind p.of_kind e shown;
       }
 
@@ -115,4 +115,4 @@ module _ (scopes : Scopes) (names : AreVariables scopes) (forall : Option Reduci
       let value = runnable scopes IsNear names e s c (first_empty own wrong h) in
       let p = value.variable in
       let one = is_scalar-is BoolKind p.type (owed_type-holds is_bool (first_of e) (type_of scopes e) p.type p.is (second_empty own wrong h)) in
-      record { simple = expr-plain scopes e value.found; found = value.found; kind = ap kind_by p.is ∙ ap value_kind one; near = s }
+      record { found = value.found; kind = ap kind_by p.is ∙ ap value_kind one; near = s }

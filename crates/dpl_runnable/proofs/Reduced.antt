@@ -24,12 +24,12 @@ use Rattle.dpl_given.proofs.Slots.{slot_in-one}
 use Rattle.dpl_words.specs.Words.{IntLeaf, TruthLeaf}
 use Rattle.dpl_memory.specs.Memory.{VariableKind, PlainKind, DomainKind, TupleKind, CellKind, ArrayKind}
 use Rattle.dpl_memory.specs.Resolved.{text_of, KindCombines}
-use Rattle.dpl_typer.specs.Leaves.{value_kind, kind_by, kind_in, leaf_by, leaf_in}
-use Rattle.dpl_typer.specs.Sights.{bound_in}
-use Rattle.dpl_typer.proofs.OperatorKinds.{kind-same}
+use Rattle.dpl_typed.specs.Leaves.{value_kind, kind_by, kind_in, leaf_by, leaf_in}
+use Rattle.dpl_bound.specs.Sights.{bound_in}
+use Rattle.dpl_runnable.proofs.Kept.{kind-same}
 use Rattle.dpl_runnable.specs.Kinds.{IsNamed, AreVariables, IsScalarKind}
 use Rattle.dpl_runnable.specs.Runnable.{AreToldAlike, IsReduced, AreRunnableIntents, HasRunnableIntents}
-use Rattle.dpl_runnable.proofs.Expressions.{kind-cases}
+use Rattle.dpl_runnable.proofs.Kept.{kind-cases}
 use Rattle.dpl_runnable.proofs.Owed.{is_scalar-is, owed_type-holds, scalar-by}
 
 -- ---- intents

@@ -17,10 +17,10 @@ use Rattle.dpl_rules.specs.Breaches.{top}
 use Rattle.dpl_rules.specs.Sound.{behind_all}
 use Rattle.dpl_scopes.specs.Slots.{next_slot_in}
 use Rattle.dpl_memory.specs.Resolved.{Bound, Start, first_seen, resolving}
-use Rattle.dpl_typer.specs.Leaves.{value_kind}
-use Rattle.dpl_typer.specs.Sights.{bound_in, sight_of, AreKnownScopes}
+use Rattle.dpl_typed.specs.Leaves.{value_kind}
+use Rattle.dpl_bound.specs.Sights.{bound_in, sight_of, AreKnownScopes}
 use Rattle.dpl_runnable.specs.Runnable.{IsRunnableHeader, IsRunnableStmt, IsRunnableBody, AreRunnableStmts, IsRunnableElse, IsRunnableTop, AreRunnableTops}
-use Rattle.dpl_runnable.specs.Bounds.{bound_new, bound_variables, loop_type, bound_stmt, bound_body, bound_stmts, bound_else, bound_program, with_slot, slots_each, slots_turn, slots_stmt, slots_body, slots_stmts, slots_else, slots_of}
+use Rattle.dpl_bound.specs.Bounds.{bound_new, bound_variables, loop_type, bound_stmt, bound_body, bound_stmts, bound_else, bound_program, with_slot, slots_each, slots_turn, slots_stmt, slots_body, slots_stmts, slots_else, slots_of}
 use Rattle.dpl_runnable.specs.Given.{AreGiven}
 use Rattle.dpl_runnable.specs.InSight.{seen_of, AreOpen, AreOwed, IsOwedBy, AreTurnKinds}
 use Rattle.dpl_runnable.proofs.Scoped.{open-known, after-stmt, after-stmts, IsOverNone, single-over}
@@ -89,7 +89,7 @@ stmt-open (Forall at xs word item intents body) ss is r h = h
 stmt-open (Coforall at xs word item intents body) ss is r h = h
 stmt-open (On at e body) ss is r h = h
 
-top-open : (t : StmtTree Text) (ss : Scopes) → IsRunnableTop ss t → AreOpen ss → AreOpen (behind ss t)
+pub top-open : (t : StmtTree Text) (ss : Scopes) → IsRunnableTop ss t → AreOpen ss → AreOpen (behind ss t)
 top-open (Nothing at) ss r h = h
 top-open (Declare d) ss r h = declared-open ss d r h
 top-open (Assigned target sign item semicolon) ss r h = h

@@ -30,15 +30,16 @@ use Rattle.dpl_scopes.specs.Slots.{count_in, next_slot_in}
 use Rattle.dpl_words.specs.Words.{IntLeaf, TruthLeaf, RangeLeaf}
 use Rattle.dpl_memory.specs.Memory.{VariableKind, PlainKind, DomainKind, TupleKind, CellKind, ArrayKind}
 use Rattle.dpl_memory.specs.Resolved.{Bound, Start, sighted, bind, domain_among, over_of, IsWhole, resolving}
-use Rattle.dpl_typer.specs.Makers.{is_promoted, kind_if}
-use Rattle.dpl_typer.specs.Leaves.{is_rank, value_kind, kind_by, leaf_by}
-use Rattle.dpl_typer.specs.Sights.{bound_in, bound_at, over_by, sighted_at, sight_of, is_promoted_type, is_promoted_by, AreKnownScopes}
-use Rattle.dpl_typer.proofs.OperatorKinds.{kind_if-some, kind-same}
-use Rattle.dpl_typer.proofs.Sights.{HasKnownKind}
-use Rattle.dpl_typer.proofs.Overs.{over-declared}
+use Rattle.dpl_runnable.specs.Kinds.{is_promoted}
+use Rattle.dpl_typed.specs.Leaves.{kind_if, value_kind, kind_by, leaf_by}
+use Rattle.dpl_typed.specs.Typed.{is_rank}
+use Rattle.dpl_bound.specs.Sights.{bound_in, bound_at, over_by, sighted_at, sight_of, is_promoted_type, is_promoted_by, AreKnownScopes}
+use Rattle.dpl_runnable.proofs.Kept.{kind_if-some, kind-same}
+use Rattle.dpl_runnable.proofs.Sights.{HasKnownKind}
+use Rattle.dpl_runnable.proofs.Overs.{over-declared}
 use Rattle.dpl_runnable.proofs.Owed.{owed_type-holds}
 use Rattle.dpl_runnable.proofs.Scopes.{is_domain-kept, is_untyped-kept}
-use Rattle.dpl_runnable.specs.Bounds.{bound_new, bound_declare, bound_stmt, bound_stmts}
+use Rattle.dpl_bound.specs.Bounds.{bound_new, bound_declare, bound_stmt, bound_stmts}
 use Rattle.dpl_runnable.specs.InSight.{seen_of, AreOpen, behind_body}
 
 -- ONE MORE NAME

@@ -29,13 +29,14 @@ use Rattle.dpl_rules.proofs.Admission.{first_empty, second_empty}
 use Rattle.dpl_sound.proofs.Given.{some-same, both_so}
 use Rattle.dpl_words.specs.Words.{IntLeaf, TruthLeaf}
 use Rattle.dpl_memory.specs.Memory.{VariableKind, PlainKind, DomainKind, TupleKind}
-use Rattle.dpl_typer.specs.Makers.{kind_if}
-use Rattle.dpl_typer.specs.Leaves.{is_rank, is_tuple_rank, value_kind}
-use Rattle.dpl_typer.specs.Sights.{is_promoted_type}
+use Rattle.dpl_typed.specs.Leaves.{kind_if, value_kind}
+use Rattle.dpl_typed.specs.Typed.{is_rank, is_tuple_rank}
+use Rattle.dpl_bound.specs.Sights.{is_promoted_type}
 use Rattle.dpl_runnable.specs.Kinds.{IsVariable, IsNamed, AreVariables}
 use Rattle.dpl_runnable.proofs.Arrays.{created-named, array_type-named}
 use Rattle.dpl_runnable.proofs.Owed.{owed-holds, owed_type-holds}
-use Rattle.dpl_runnable.proofs.Expressions.{kind-cases, not_bare, RunnableItem, runnable_item}
+use Rattle.dpl_runnable.proofs.Kept.{kind-cases}
+use Rattle.dpl_runnable.proofs.Expressions.{not_bare, RunnableItem, runnable_item}
 
 -- ---- scopes
 pub top-variables : AreVariables top

@@ -11,9 +11,8 @@ use Rattle.dpl_rules.specs.Declarations.{is_kept, type_given, declaration_breach
 use Rattle.dpl_sound.proofs.Given.{some-same}
 use Rattle.dpl_words.specs.Words.{LeafKind}
 use Rattle.dpl_memory.specs.Memory.{VariableKind, PlainKind, DomainKind, TupleKind, CellKind, ArrayKind}
-use Rattle.dpl_typer.specs.Makers.{is_promoted}
-use Rattle.dpl_typer.specs.Leaves.{value_kind, kind_by}
-use Rattle.dpl_runnable.specs.Kinds.{IsScalarKind, IsDeclaredKind, IsGivenTo}
+use Rattle.dpl_runnable.specs.Kinds.{is_promoted, IsScalarKind, IsDeclaredKind, IsGivenTo}
+use Rattle.dpl_typed.specs.Leaves.{value_kind, kind_by}
 use Rattle.dpl_runnable.specs.Runnable.{IsRunnableDeclare}
 use Rattle.dpl_runnable.specs.InSight.{IsSingleKind, IsNoArrayType}
 use Rattle.dpl_runnable.proofs.Scoped.{unless-both, untyped-declared, kept-single}

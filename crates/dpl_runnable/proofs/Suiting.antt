@@ -16,16 +16,17 @@ use Rattle.dpl_words.specs.Words.{LeafKind}
 use Rattle.dpl_memory.specs.Memory.{VariableKind, PlainKind, DomainKind, TupleKind, CellKind, ArrayKind}
 use Rattle.dpl_memory.specs.Resolved.{Bound, Shape, Seen, IsElement, HasNoArray, GivesOnce, SuitsKind, OrReplies, Suits, SuitsElement}
 use Rattle.dpl_memory.proofs.Suiting.{unread-suits}
-use Rattle.dpl_typer.specs.Makers.{operand_kind, leaf_of, is_promoted}
-use Rattle.dpl_typer.specs.Leaves.{is_rank, value_kind, IsFound}
-use Rattle.dpl_typer.specs.Shapes.{shape_of, takes_shape}
-use Rattle.dpl_typer.specs.Simple.{IsSimpleItem}
-use Rattle.dpl_typer.specs.Sights.{bound_in, AreKnownScopes}
-use Rattle.dpl_typer.proofs.OperatorKinds.{IsOperand, kind_if-some, operand}
-use Rattle.dpl_typer.proofs.Shaped.{typed-held, taken-shape, item-typed_at}
-use Rattle.dpl_typer.proofs.Fits.{unread-simple}
-use Rattle.dpl_typer.proofs.Arrays.{element-suits}
-use Rattle.dpl_runnable.specs.Kinds.{IsGivenTo}
+use Rattle.dpl_runnable.specs.Kinds.{operand_kind, leaf_of, is_promoted, IsGivenTo}
+use Rattle.dpl_typed.specs.Typed.{is_rank}
+use Rattle.dpl_typed.specs.Leaves.{value_kind, IsFound}
+use Rattle.dpl_bound.specs.Shapes.{shape_of, takes_shape}
+use Rattle.dpl_typed.specs.Simple.{IsSimpleItem}
+use Rattle.dpl_bound.specs.Sights.{bound_in, AreKnownScopes}
+use Rattle.dpl_runnable.proofs.Kept.{kind_if-some}
+use Rattle.dpl_runnable.proofs.Operands.{IsOperand, operand}
+use Rattle.dpl_runnable.proofs.Shaped.{typed-held, taken-shape, item-typed_at}
+use Rattle.dpl_runnable.proofs.Fits.{unread-simple}
+use Rattle.dpl_runnable.proofs.SuitedArrays.{element-suits}
 use Rattle.dpl_runnable.specs.InSight.{seen_of}
 use Rattle.dpl_runnable.proofs.Expressions.{variable-cases}
 use Rattle.dpl_runnable.proofs.Fitting.{item-unread}
@@ -39,7 +40,7 @@ once-typed t k v single e = variable-cases (λ t. HasType v (type_at t None) →
 -- of an operand's type there are values of its kind at each index
 same_kind_by : (j : VariableKind) (k : Kind) (o : Option Operand) → IsOperand j o → operand_kind j ≡ Some k → (p : Operand) × (o ≡ Some p) × (p.kind ≡ k)
 same_kind_by j k None h e = absurd (none-some k (sym h ∙ e))
-same_kind_by j k (Some o) h e = (o, refl, some-same o.kind k (sym h.0 ∙ e))
+same_kind_by j k (Some o) h e = (o, refl, some-same o.kind k (sym h ∙ e))
 
 turn-value : (u : ValueType) (j : VariableKind) (k : Kind) (t : Index) (v : Value) → value_kind u ≡ Some j → operand_kind j ≡ Some k → HasType v (type_at u (Some t)) → OfKind k v
 turn-value u j k t v e kind h =

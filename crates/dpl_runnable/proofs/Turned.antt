@@ -17,14 +17,14 @@ use Rattle.dpl_scopes.specs.Slots.{next_slot_in}
 use Rattle.dpl_words.specs.Words.{IntLeaf, TruthLeaf, RangeLeaf, LocaleLeaf}
 use Rattle.dpl_memory.specs.Memory.{VariableKind, PlainKind, DomainKind, TupleKind, CellKind, ArrayKind}
 use Rattle.dpl_memory.specs.Resolved.{Bound, Start, IsUnused, AreUnused, MayHold, SuitsTurns, resolving}
-use Rattle.dpl_typer.specs.Makers.{is_promoted}
-use Rattle.dpl_typer.specs.Simple.{IsSimpleItem}
-use Rattle.dpl_typer.specs.Leaves.{value_kind, leaf_by, IsFound}
-use Rattle.dpl_typer.specs.Shapes.{shape_of}
-use Rattle.dpl_typer.specs.Sights.{bound_in, sight_of, AreKnownScopes}
-use Rattle.dpl_typer.proofs.Sights.{unused_next}
-use Rattle.dpl_typer.proofs.Shaped.{loop-turns}
-use Rattle.dpl_runnable.specs.Bounds.{bound_new, loop_variable, bound_variable, bound_others, bound_variables, loop_type, with_slot, slots_each}
+use Rattle.dpl_runnable.specs.Kinds.{is_promoted}
+use Rattle.dpl_typed.specs.Simple.{IsSimpleItem}
+use Rattle.dpl_typed.specs.Leaves.{value_kind, leaf_by, IsFound}
+use Rattle.dpl_bound.specs.Shapes.{shape_of}
+use Rattle.dpl_bound.specs.Sights.{bound_in, sight_of, AreKnownScopes}
+use Rattle.dpl_runnable.proofs.Sights.{unused_next}
+use Rattle.dpl_runnable.proofs.Shaped.{loop-turns}
+use Rattle.dpl_bound.specs.Bounds.{bound_new, loop_variable, bound_variable, bound_others, bound_variables, loop_type, with_slot, slots_each}
 use Rattle.dpl_runnable.specs.InSight.{seen_of, AreOpen, IsTurnKind, AreTurnKinds, AreFresh}
 use Rattle.dpl_runnable.proofs.Scoped.{sight_of-plain, plain-add, open-known, new-no_array, IsOverNone, single-over, single-type}
 use Rattle.dpl_runnable.proofs.Headers.{over-simple}

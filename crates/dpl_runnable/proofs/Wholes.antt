@@ -27,11 +27,12 @@ use Rattle.dpl_sound.proofs.Sound.{range_item-type, ranges_verdict-has, kind-no_
 use Rattle.dpl_scopes.specs.Slots.{slot_in}
 use Rattle.dpl_memory.specs.Memory.{ArrayKind, Variable, variable, Memory, array_at, in_memory}
 use Rattle.dpl_memory.specs.Resolved.{variable_of}
-use Rattle.dpl_typer.specs.Leaves.{is_rank, kind_by, kind_in, leaf_by, leaf_in, IsFound}
-use Rattle.dpl_typer.specs.Simple.{IsSimple, IsSimpleItem}
-use Rattle.dpl_typer.specs.Sights.{bound_in}
-use Rattle.dpl_typer.proofs.OperatorKinds.{kind_if-some}
-use Rattle.dpl_typer.proofs.Formed.{expr-formed}
+use Rattle.dpl_typed.specs.Typed.{is_rank}
+use Rattle.dpl_typed.specs.Leaves.{kind_by, kind_in, leaf_by, leaf_in, IsFound}
+use Rattle.dpl_typed.specs.Simple.{IsSimple, IsSimpleItem}
+use Rattle.dpl_bound.specs.Sights.{bound_in}
+use Rattle.dpl_runnable.proofs.Kept.{kind_if-some}
+use Rattle.dpl_runnable.proofs.Formed.{expr-formed}
 
 module _ (limits : Limits) (s : Memory) (ss : Scopes) where
   abbrev env : Environment Text Memory

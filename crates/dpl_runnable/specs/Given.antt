@@ -7,8 +7,8 @@ use Rattle.dpl_rules.specs.Sound.{is_configured}
 use Rattle.dpl_words.specs.Words.{LeafKind}
 use Rattle.dpl_memory.specs.Memory.{PlainKind}
 use Rattle.dpl_memory.specs.Resolved.{Bound, Start, IsGivenAs}
-use Rattle.dpl_typer.specs.Leaves.{kind_by}
-use Rattle.dpl_typer.specs.Sights.{bound_in}
+use Rattle.dpl_typed.specs.Leaves.{kind_by}
+use Rattle.dpl_bound.specs.Sights.{bound_in}
 
 -- a name gets the same by its text as by its slot
 abbrev pub IsGiven : Start → Bound → Type 0

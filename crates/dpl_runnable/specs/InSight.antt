@@ -13,8 +13,8 @@ use Rattle.dpl_rules.specs.Sound.{behind_all}
 use Rattle.dpl_words.specs.Words.{IntLeaf, TruthLeaf, RangeLeaf, LocaleLeaf}
 use Rattle.dpl_memory.specs.Memory.{VariableKind, PlainKind, DomainKind, TupleKind, CellKind, ArrayKind}
 use Rattle.dpl_memory.specs.Resolved.{Bound, Seen, Start}
-use Rattle.dpl_typer.specs.Sights.{bound_in, sight_of, AreKnownScopes}
-use Rattle.dpl_runnable.specs.Bounds.{bound_new, loop_variable}
+use Rattle.dpl_bound.specs.Sights.{bound_in, sight_of, AreKnownScopes}
+use Rattle.dpl_bound.specs.Bounds.{bound_new, loop_variable}
 use Rattle.dpl_runnable.specs.Given.{IsGiven, AreGiven}
 
 abbrev pub seen_of : Scopes → List (Bound × Op) → Seen

@@ -1,14 +1,42 @@
 -- The kinds of names: ints, truth values, ranges, domains, the tuple names of loops, and arrays.
 -- In a program that runs and breaks no rule each name in sight has one.
-use Rattle.std.specs.Prelude.{◌≡◌, ◌⊎◌, false, Option, Some}
+use Rattle.std.specs.Prelude.{◌≡◌, ◌⊎◌, Bool, true, false, Option, Some, None}
+use Rattle.dpl_language.specs.Tree.{Kind, IntKind, BoolKind}
 use Rattle.dpl_language.specs.Names.{Text}
 use Rattle.dpl_rules.specs.Types.{ValueType}
 use Rattle.dpl_rules.specs.Sights.{Declared, Scopes, lookup}
-use Rattle.dpl_words.specs.Words.{IntLeaf, TruthLeaf, RangeLeaf, LocaleLeaf}
+use Rattle.dpl_words.specs.Words.{LeafKind, IntLeaf, TruthLeaf, RangeLeaf, LocaleLeaf}
 use Rattle.dpl_memory.specs.Memory.{VariableKind, PlainKind, DomainKind, TupleKind, CellKind, ArrayKind}
-use Rattle.dpl_typer.specs.Makers.{leaf_of}
-use Rattle.dpl_typer.specs.Leaves.{value_kind}
-use Rattle.dpl_typer.specs.Sights.{is_promoted_type}
+use Rattle.dpl_typed.specs.Leaves.{value_kind}
+use Rattle.dpl_bound.specs.Sights.{is_promoted_type}
+
+-- of ints and of truth values
+abbrev pub leaf_of : Kind → LeafKind
+leaf_of IntKind = IntLeaf
+leaf_of BoolKind = TruthLeaf
+
+-- what is an int or a truth value, by itself or at each index
+abbrev pub operand_kind : VariableKind → Option Kind
+operand_kind (PlainKind IntLeaf) = Some IntKind
+operand_kind (PlainKind TruthLeaf) = Some BoolKind
+operand_kind (PlainKind RangeLeaf) = None
+operand_kind (PlainKind LocaleLeaf) = None
+operand_kind DomainKind = None
+operand_kind TupleKind = None
+operand_kind (ArrayKind k) = Some k
+operand_kind (CellKind c) = None
+
+-- what has values at each index
+abbrev pub is_promoted : VariableKind → Bool
+is_promoted (PlainKind k) = false
+is_promoted DomainKind = false
+is_promoted TupleKind = false
+is_promoted (ArrayKind k) = true
+is_promoted (CellKind c) = false
+
+-- where there is a type, it has a kind
+abbrev pub HasKind : Option ValueType → Type 0
+HasKind o = (t : ValueType) → o ≡ Some t → (k : VariableKind) × (value_kind t ≡ Some k)
 
 -- there is a type, and it has a kind
 pub record IsVariable (o : Option ValueType) : Type 0 where

@@ -1,5 +1,4 @@
--- Programs with their names resolved, and what the command line sets of them.
-pub mod Bounds
+-- What the command line sets.
 pub mod Given
 -- What serves contracts and proofs alone: what each name in sight of a program that runs is, what its statements are, and what each tree that is written is.
 pub mod Kinds

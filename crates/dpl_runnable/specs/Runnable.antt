@@ -1,45 +1,43 @@
 -- Programs that run: what each statement is where these scopes are open, with the kinds of its parts told.
 -- Inside a forall its reduce variables are known, with their slots; `is` has them.
-use Rattle.std.specs.Prelude.{◌≡◌, ◌≢◌, ◌⊎◌, ℕ, nat_le, true, false, ◌&&◌, List, [], ◌∷◌, Option, Some, None}
+use Rattle.std.specs.Prelude.{◌≡◌, ◌≢◌, ℕ, nat_le, true, false, ◌&&◌, List, [], ◌∷◌, Option, Some, None}
 use Rattle.dpl_syntax.specs.declared.place.Place.{Place}
-use Rattle.dpl_language.specs.Tree.{Op, Assign, Set, SetAdd, SetSubtract, SetMultiply, SetDivide, SetRemainder, SetReduce, Placed, Kind, ExprTree, Named, Exprs, ItemTree, TypeTree, ScalarType, SyncType, DomainType, ArrayType, CreateTree, InitTree, ItemInit, CreateInit, InitialTree, DeclareTree}
+use Rattle.dpl_language.specs.Tree.{Op, Assign, Set, SetAdd, SetSubtract, SetMultiply, SetDivide, SetRemainder, SetReduce, Placed, Kind, ExprTree, Named, Exprs, ItemTree, TypeTree, ScalarType, SyncType, DomainType, ArrayType, CreateTree, MappedTree, InitTree, ItemInit, CreateInit, InitialTree, DeclareTree}
 use Rattle.dpl_language.specs.Tree.{ArgumentTree, TextArgument, ExprArgument, IntentTree, ReduceIntent, RefIntent, WithTree, VariablesTree, OneVariable, ManyVariables, Whole, Element, StmtTree, Nothing, Declare, Assigned, Call, Write, Block, If, While, For, Forall, Coforall, On, Body, WordBody, BlockBody, Stmts, NoStmts, Then, Else, NoElse, ElseDo}
 use Rattle.dpl_language.specs.Names.{Text, paired}
 use Rattle.dpl_language.specs.Phrases.{parts, intents_of}
 use Rattle.dpl_language.specs.Declarations.{type_of as written_type}
+use Rattle.dpl_language.specs.Roots.{type_map}
+use Rattle.dpl_agreement.specs.Scopes.{initial_map}
 use Rattle.dpl_agreement.specs.Renamed.{renamed_intents}
 use Rattle.dpl_language.specs.Writing.{arguments_of}
 use Rattle.dpl_rules.specs.Types.{ValueType, Scalar, Range, Domain, Array, Promoted, Tuple, Locale, AllLocales, Cell}
 use Rattle.dpl_rules.specs.Sights.{Scopes, declared_here, enter}
 use Rattle.dpl_rules.specs.Verdicts.{type_by}
 use Rattle.dpl_rules.specs.Operators.{over_verdict}
-use Rattle.dpl_rules.specs.Expressions.{type_of, item_type, item_parts, expr_parts}
+use Rattle.dpl_rules.specs.Expressions.{type_of, item_type, item_parts}
 use Rattle.dpl_rules.specs.Declarations.{declared_by}
 use Rattle.dpl_rules.specs.Loops.{ForWord, ForallWord, fits_variables, in_loop, behind, each_once, variables_of}
 use Rattle.dpl_scopes.specs.Slots.{slot_in}
 use Rattle.dpl_words.specs.Words.{IntLeaf, TruthLeaf, RangeLeaf, LocaleLeaf}
 use Rattle.dpl_memory.specs.Memory.{VariableKind, PlainKind, DomainKind, TupleKind, CellKind, ArrayKind}
 use Rattle.dpl_memory.specs.Resolved.{Bound, text_of, kind_takes, KindCombines}
-use Rattle.dpl_spelling.specs.Spelt.{ExprSpelt, ItemSpelt, ItemsSpelt, ExprsSpelt}
+use Rattle.dpl_spelling.specs.Spelt.{ExprSpelt, ItemSpelt, ItemsSpelt, ExprsSpelt, MapSpelt}
 use Rattle.dpl_nodes.specs.Spots.{IsNear}
-use Rattle.dpl_typer.specs.Leaves.{value_kind, kind_by, type_in, kind_in, IsFound, MayBePlain}
-use Rattle.dpl_typer.specs.Shapes.{IsTakenOf, IsTaken}
-use Rattle.dpl_typer.specs.Simple.{IsSimple, IsSimpleItem, AreSimpleItems, AreSimpleExprs}
-use Rattle.dpl_typer.specs.Sights.{bound_in}
-use Rattle.dpl_typer.specs.Makers.{leaf_of}
-use Rattle.dpl_typer.specs.Elaborated.{IsNoIndex}
-use Rattle.dpl_placing.specs.Roots.{AreFoundMaps, HaveMaps}
-use Rattle.dpl_runnable.specs.Kinds.{IsScalarKind, IsDeclaredKind, IsAssignedKind, IsGivenTo}
+use Rattle.dpl_typed.specs.Leaves.{value_kind, kind_by, type_in, kind_in, IsFound}
+use Rattle.dpl_mapped.specs.Named.{IsSimpleMap}
+use Rattle.dpl_runnable.specs.Kinds.{leaf_of, IsScalarKind, IsDeclaredKind, IsAssignedKind, IsGivenTo}
+use Rattle.dpl_bound.specs.Shapes.{IsTakenOf, IsTaken}
+use Rattle.dpl_typed.specs.Simple.{IsSimple, IsSimpleItem, AreSimpleItems, AreSimpleExprs}
+use Rattle.dpl_bound.specs.Sights.{bound_in}
 
 -- EXPRESSIONS of a kind, whose names are in sight and whose places a fault's word has room for
 pub record IsExprOf (ss : Scopes) (e : ExprTree Text) (k : VariableKind) : Type 0 where
-  pub simple : IsSimple (MayBePlain ss) e
   pub found : IsSimple (IsFound ss) e
   pub kind : kind_by (type_of ss e) ≡ Some k
   pub near : ExprSpelt IsNear ⊥ e
 
 pub record IsItemOf (ss : Scopes) (i : ItemTree Text) (k : VariableKind) : Type 0 where
-  pub simple : IsSimpleItem (MayBePlain ss) i
   pub found : IsSimpleItem (IsFound ss) i
   pub kind : kind_by (item_type ss i) ≡ Some k
   pub near : ItemSpelt IsNear ⊥ i
@@ -50,7 +48,7 @@ IsRunnableType ss None = Unit {0}
 IsRunnableType ss (Some (ScalarType at k)) = Unit {0}
 IsRunnableType ss (Some (SyncType at kind_at k)) = ⊥
 IsRunnableType ss (Some (DomainType d)) = (nat_le 1 d.rank && nat_le d.rank 3) ≡ true
-IsRunnableType ss (Some (ArrayType a)) = AreSimpleItems (MayBePlain ss) a.over × ItemsSpelt IsNear ⊥ a.over × IsNear a.from
+IsRunnableType ss (Some (ArrayType a)) = ItemsSpelt IsNear ⊥ a.over × IsNear a.from
 
 -- the names between an array's brackets are in sight
 abbrev pub IsFoundType : Scopes → Option (TypeTree Text) → Type 0
@@ -72,7 +70,6 @@ abbrev pub created_type : Scopes → CreateTree Text → Option ValueType
 created_type ss c = type_by (over_verdict c.from (item_parts ss c.items))
 
 pub record IsCreatedOf (ss : Scopes) (c : CreateTree Text) (k : VariableKind) : Type 0 where
-  pub simple : AreSimpleItems (MayBePlain ss) c.items
   pub found : AreSimpleItems (IsFound ss) c.items
   pub kind : kind_by (created_type ss c) ≡ Some k
   pub near : ItemsSpelt IsNear ⊥ c.items
@@ -101,21 +98,16 @@ abbrev pub IsConfigOf : Option Place → VariableKind → Type 0
 IsConfigOf None k = Unit {0}
 IsConfigOf (Some config) k = IsScalarKind k
 
--- A map is said of a domain alone: of anything else no domain's type is written, no map and no created domain.
-abbrev pub SaysNoMapInit : InitTree Text → Type 0
-SaysNoMapInit (ItemInit i None) = Unit {0}
-SaysNoMapInit (ItemInit i (Some m)) = ⊥
-SaysNoMapInit (CreateInit c) = ⊥
+-- MAPS: the names in one that is written are in sight, and its places are near
+abbrev pub IsFoundMap : Scopes → Option (MappedTree Text) → Type 0
+IsFoundMap ss None = Unit {0}
+IsFoundMap ss (Some m) = IsSimpleMap (IsFound ss) m.map × MapSpelt IsNear ⊥ m.map
 
-abbrev pub SaysNoMap : Option (TypeTree Text) → Option (InitialTree Text) → Type 0
-SaysNoMap (Some (DomainType d)) i = ⊥
-SaysNoMap _ None = Unit {0}
-SaysNoMap _ (Some i) = SaysNoMapInit i.init
+-- of a type and of an initial value
+abbrev pub AreFoundMaps : Scopes → Option (TypeTree Text) → Option (InitialTree Text) → Type 0
+AreFoundMaps ss type i = IsFoundMap ss (type_map type) × IsFoundMap ss (initial_map i)
 
-abbrev pub IsMappedBeside : Option (TypeTree Text) → Option (InitialTree Text) → VariableKind → Type 0
-IsMappedBeside type i k = (k ≡ DomainKind) ⊎ SaysNoMap type i
-
--- The name is new in its scope, and has a value of its type's kind; each map has a typed form, and names what is in sight.
+-- The name is new in its scope, and has a value of its type's kind; and each map names what is in sight.
 pub record IsRunnableDeclare (ss : Scopes) (d : DeclareTree Text) : Type 0 where
   pub type : IsRunnableType ss (written_type d.typed)
   pub over : IsFoundType ss (written_type d.typed)
@@ -126,9 +118,7 @@ pub record IsRunnableDeclare (ss : Scopes) (d : DeclareTree Text) : Type 0 where
   pub kept : IsDeclaredKind kind
   pub shaped : (t : ValueType) → (declared_by ss d).type ≡ Some t → IsShapedInitial ss d.initial t
   pub fresh : declared_here ss d.name.name ≡ false
-  pub maps : HaveMaps ss (written_type d.typed) d.initial
   pub found : AreFoundMaps ss (written_type d.typed) d.initial
-  pub beside : IsMappedBeside (written_type d.typed) d.initial kind
   pub config : IsConfigOf d.config kind
 
 -- ASSIGNMENTS. A reduce variable has the slot that it had at its forall, and no other name has that slot.
@@ -166,10 +156,8 @@ pub record IsRunnableChange (ss : Scopes) (is : List (Bound × Op)) (x : Text) (
 pub record IsRunnableElement (ss : Scopes) (x : Text) (es : Exprs Text) (op : Assign) (value : ItemTree Text) : Type 0 where
   pub kind : Kind
   pub target : kind_in ss x ≡ Some (ArrayKind kind)
-  pub simple : AreSimpleExprs (MayBePlain ss) es
   pub found : AreSimpleExprs (IsFound ss) es
   pub near : ExprsSpelt IsNear ⊥ es
-  pub index : IsNoIndex (expr_parts ss es) → ⊥
   pub item : IsItemOf ss value (PlainKind (leaf_of kind))
   pub taken : kind_takes (ArrayKind kind) op ≡ true
   pub unreduced : op ≢ SetReduce

@@ -1,12 +1,9 @@
 -- What is true of each tree that tokens spell and that its names and places don't say: a loop's brackets hold two variables or
 -- more, and a `config const` stands at the top level alone.
-use Rattle.std.specs.Prelude.{◌≡◌, ◌≢◌, [], None}
-use Rattle.dpl_language.specs.Tree.{VariablesTree, OneVariable, ManyVariables, StmtTree, Nothing, Declare, Assigned, Call, Write, Block, If, While, For, Forall, Coforall, On, Body, WordBody, BlockBody, Stmts, NoStmts, Then, Else, NoElse, ElseDo}
+use Rattle.std.specs.Prelude.{◌≡◌, None}
+use Rattle.dpl_language.specs.Tree.{StmtTree, Nothing, Declare, Assigned, Call, Write, Block, If, While, For, Forall, Coforall, On, Body, WordBody, BlockBody, Stmts, NoStmts, Then, Else, NoElse, ElseDo}
 use Rattle.dpl_language.specs.Names.{Text}
-
-abbrev pub HasSeveral : VariablesTree Text → Type 0
-HasSeveral (OneVariable x) = Unit {0}
-HasSeveral (ManyVariables from xs upto) = xs.others ≢ []
+pub use Rattle.dpl_heads.specs.Plain.{HasSeveral}
 
 -- ---- statements below the top level
 abbrev mutual

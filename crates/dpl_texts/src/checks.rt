@@ -4,7 +4,7 @@
 use crate::reading::parted;
 use crate::refusals::{ALONE, HOUSE, IN_HOUSE};
 use bumpalo::Bump;
-use dpl_checker::refusal;
+use dpl_checker::walk_over;
 use dpl_lexer::lex;
 use dpl_parser::{Arena, parse};
 use std::alloc::Global;
@@ -22,7 +22,8 @@ fn verdict(rt: &impl Abort, alloc: Global, text: &[u8], sets: &[&str]) -> String
         Ok(program) => program,
         Err(stop) => return format!(in alloc; "{stop}").expect(rt, "memory"),
     };
-    let said = match refusal(arena, &program, sets).expect(rt, "memory") {
+    let walked = walk_over(arena, &program).expect(rt, "memory");
+    let said = match walked.refusal(alloc, sets).expect(rt, "memory") {
         None => format!(in alloc; "sound"),
         Some(refusal) => format!(in alloc; "{refusal}"),
     };

@@ -1,11 +1,18 @@
-use Rattle.std.proofs.Common.{refl, option_map}
-use Rattle.dpl_forms.specs.Around.{reducing_view}
-use Rattle.dpl_checker.proofs.Steps.{adds_then}
+use Rattle.std.proofs.Common.{refl, false, option_map}
+use Rattle.dpl_tree.specs.View.{expr_view}
+use Rattle.dpl_rules.specs.Deeds.{held, AnOn, expr_deeds}
+use Rattle.dpl_assignments.specs.Around.{reducing_view}
+use Rattle.dpl_checker.proofs.Steps.{adds_then, on_added}
 use Rattle.dpl_checker.proofs.form.sent.Goals as goal
 
 pub returns : goal.returns
-returns c around = (
-  refl,
-  adds_then _ _ _ _ _ c.in_ok-held.ensures c.in_ok-expr_deeds.ensures,
-  c.in_ok-on.ensures (option_map reducing_view around.forall) around.in_task,
-)
+returns c around =
+    let walk = c.args.walk.now in
+    on_added c.expr_deeds.result
+    (λ added. record {
+      scopes = refl;
+      slots = refl;
+      deeds = adds_then walk.deeds.items c.held.new.deeds.items c.expr_deeds.new.deeds.items (held c.args.at AnOn) (expr_deeds walk.scopes false (expr_view c.args.e.now)) c.in-Ok-held.ensures added;
+      told = c.in-Ok.ensures (option_map reducing_view around.forall) around.in_task;
+    })
+    c.expr_deeds.ensures

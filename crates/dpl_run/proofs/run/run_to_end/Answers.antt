@@ -11,7 +11,7 @@ use Rattle.dpl_standing.specs.Standing.{Outside}
 use Rattle.dpl_readings.specs.Readings.{steps_in}
 use Rattle.dpl_readings.proofs.Standing.{steps_in-of}
 use Rattle.dpl_frame.specs.Frames.{Framed}
-use Rattle.dpl_typer.proofs.Names.{if_ok}
+use Rattle.dpl_typed.proofs.Standing.{if_ok}
 use Rattle.dpl_run.specs.TopLevel.{AreLeft}
 use Rattle.dpl_run.specs.Plans.{start_of}
 use Rattle.dpl_run.specs.Runs.{RanTo}

@@ -1,6 +1,6 @@
 -- The program that was checked is this one.
 use Rattle.std.proofs.Common.{subst}
-use Rattle.dpl_typer.proofs.Names.{if_ok}
+use Rattle.dpl_typed.proofs.Standing.{if_ok}
 use Rattle.dpl_run.specs.Programs.{Runs}
 use Rattle.dpl_outcome.specs.Settings.{limits_of}
 use Rattle.dpl_run.proofs.text.run_spelled.Goals as goal

@@ -1,9 +1,0 @@
-use Rattle.std.proofs.Common.{sym, ◌∙◌}
-use Rattle.dpl_forms.proofs.Overs.{declared_over_alone, declared_over_among}
-use Rattle.dpl_forms.proofs.declaration.bare_over.Goals as goal
-
-pub returns-in-empty : goal.returns-in-empty
-returns-in-empty c = c.bare_item.ensures ∙ sym (declared_over_alone c.args.written.now c.in-empty.len_below)
-
-pub returns-in-len1-up : goal.returns-in-len1-up
-returns-in-len1-up c = sym (declared_over_among c.args.written.now c.in-len1-up.len_at_least)
