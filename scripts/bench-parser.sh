@@ -7,7 +7,7 @@ set -eu
 
 bench_crate parser_bench "$top/benches/parser/parser.rt.txt" 'dpl_syntax dpl_lexer dpl_parser dpl_checker bumpalo' \
     dpl_sets dpl_syntax dpl_lexer dpl_grammar dpl_history dpl_language dpl_agreement dpl_lowered dpl_words dpl_memory \
-    dpl_nodes dpl_rules dpl_says dpl_sound dpl_tree dpl_types dpl_scopes dpl_typing dpl_deeds dpl_bodies dpl_typed \
+    dpl_nodes dpl_rules dpl_says dpl_sound dpl_tree dpl_types dpl_scopes dpl_deeds dpl_bodies dpl_typed \
     dpl_operators dpl_brackets dpl_elaborator dpl_bound dpl_assignments dpl_mapped dpl_heads dpl_prints dpl_declarations \
     dpl_checker dpl_limits dpl_spelling dpl_expressions dpl_statements dpl_parser
 bench_build parser_bench

@@ -13,7 +13,7 @@ use Rattle.dpl_typed.specs.Leaves.{value_kind}
 use Rattle.dpl_bound.specs.Sights.{is_promoted_type}
 use Rattle.dpl_assignments.specs.Plain.{IsReducible}
 use Rattle.dpl_assignments.specs.Takes.{element_by, scalar_by, Takes}
-use Rattle.dpl_assignments.proofs.Unbroken.{owed-holds, both-hold}
+use Rattle.dpl_types.proofs.Unbroken.{owed-holds, both-hold}
 
 -- a side of a type
 abbrev pub side_of : Place → ValueType → Part

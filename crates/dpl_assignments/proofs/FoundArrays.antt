@@ -1,7 +1,7 @@
 -- The arrays over a domain, as the scopes are gone through: what is declared stands behind those of its scope.
 -- Before each mark stand the scopes that the marks before it leave open.
-use Rattle.std.proofs.Common.{◌≡◌, ℕ, ◌+◌, ◌<◌, ◌≤◌, Bool, true, false, List, [], ◌∷◌, ◌++◌, length, get_or, take, drop, reverse, is_some, Option, Some, None, Result, Ok, Err, refl, sym, ap, ◌∙◌, subst, append-nil, length-append, arith}
-use Rattle.std.specs.Prelude.{◌==◌, if◌then◌else◌, insert, option_map, unwrap_or, OnOk}
+use Rattle.std.proofs.Common.{◌≡◌, ℕ, ◌+◌, ◌<◌, ◌≤◌, Bool, true, false, List, [], ◌∷◌, ◌++◌, length, get_or, take, drop, reverse, is_some, Option, Some, None, refl, sym, ap, ◌∙◌, subst, append-nil, length-append, arith}
+use Rattle.std.specs.Prelude.{◌==◌, if◌then◌else◌, insert, option_map, unwrap_or}
 use Rattle.std.proofs.lemmas.List.{reverse-append, take_more, take-append-drop}
 use Rattle.std.proofs.lemmas.List.Edits.{insert-append_left, insert_end}
 use Rattle.dpl_rules.specs.Sights.{Declared, Scopes, enter, add}
@@ -144,11 +144,6 @@ deep-at ms i past ss h kept before = subst (IsAsDeep (get_or ms i past)) (sym be
 pub passed-at : (ms : List Mark) (i : ℕ) (past : Mark) (ss : Scopes) → i < length ms → ss ≡ scopes_by (reverse (take i ms)) → passed (get_or ms i past) ss ≡ scopes_by (reverse (take (i + 1) ms))
 passed-at ms i past ss h before =
     ap (passed (get_or ms i past)) before ∙ sym (scopes_by-passed (get_or ms i past) (reverse (take i ms))) ∙ ap scopes_by (sym (take-mark ms i past h))
-
--- what holds of what a call left
-pub on_both : {A E P Q R : Type 0} (r : Result A E) → (P → Q → R) → OnOk r P → OnOk r Q → OnOk r R
-on_both (Ok a) f p q = f p q
-on_both (Err e) f p q = tt
 
 pub found-entered : (slot : ℕ) (ss : Scopes) (found : List ℕ) (inner : ℕ) (gs : List ℕ) (n : ℕ) → IsFoundBy slot ss found inner → gs ≡ found → n ≡ 0 → IsFoundBy slot (enter ss) gs n
 found-entered slot ss found inner gs n h same none =

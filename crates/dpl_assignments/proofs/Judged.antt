@@ -29,7 +29,7 @@ use Rattle.dpl_assignments.specs.declared.element.Indexed.{Indexed}
 use Rattle.dpl_assignments.specs.Plain.{IsReducible, IsPlainSide, IsPlainWhole, IsPlainElement}
 use Rattle.dpl_assignments.specs.Takes.{element_by, Takes}
 use Rattle.dpl_assignments.specs.Told.{element_verdict, indexed_type, indexed_types}
-use Rattle.dpl_assignments.proofs.Unbroken.{unbroken}
+use Rattle.dpl_types.proofs.Unbroken.{unbroken}
 use Rattle.dpl_assignments.proofs.Fitting.{side_of, fitting-takes, element-takes}
 use Rattle.dpl_assignments.proofs.Sides.{item-unread}
 

@@ -1,7 +1,6 @@
 pub mod Reduced
 pub mod Sides
 pub mod FoundArrays
-pub mod Unbroken
 pub mod Fitting
 pub mod Trees
 pub mod Judged

@@ -1,9 +1,12 @@
 // Assignments: what is written is told, what it takes is told, and what breaks no rule becomes a step.
 
 ghost use Rattle.std.specs.Prelude.{◌≡◌, IfOk, OnOk, None, option_map};
-ghost use Rattle.dpl_language.specs.Tree.{Whole, Assigned};
+ghost use Rattle.dpl_language.specs.Tree.{Whole, Assigned as AssignedTree};
 ghost use Rattle.dpl_nodes.specs.Steps.{step_view};
 ghost use Rattle.dpl_rules.specs.Breaches.{least_from};
+ghost use Rattle.dpl_rules.specs.Deeds.{is_promoted as is_promoted_by};
+ghost use Rattle.dpl_rules.specs.Expressions.{item_type};
+ghost use Rattle.dpl_rules.specs.Types.{has};
 ghost use Rattle.dpl_tree.specs.Statements.{target_view, sign_view};
 ghost use Rattle.dpl_tree.specs.View.{item_view, exprs_view, name_view};
 ghost use Rattle.dpl_bound.specs.Run.{stmt_leaves};
@@ -20,7 +23,16 @@ use dpl_nodes::Step;
 use dpl_scopes::Scopes;
 use dpl_syntax::Breach;
 use dpl_tree::{Arena, Assignment, Element, Name, Target};
+use dpl_typed::found::is_promoted;
 use std::alloc::AllocError;
+
+/// An assignment, elaborated: its step, or a stand-in, `Step::Nothing` or another, where it breaks a rule and where it doesn't run; and
+/// whether its right side is promoted.
+#[derive(Clone, Copy)]
+pub struct Assigned<'t> {
+    pub step: Step<'t>,
+    pub promoted: bool,
+}
 
 // An assignment to a name.
 #[tactic(auto, using(dpl_types::proofs::Breaches::least_from_append))]
@@ -31,12 +43,13 @@ fn to_name<'t>(
     name: &Name<'_>,
     written: &Assignment<'_>,
     first: &mut Option<Breach>,
-) -> Result<Step<'t>, AllocError>
+) -> Result<Assigned<'t>, AllocError>
     ensures told { OnOk result (first.new ≡ least_from first.old
         (whole_told scopes.now (option_map reducing_view around.now) (name_view name.now) (sign_view written.now.sign) (item_view written.now.value))) }
-    ensures node { IfOk result (λ s. first.new ≡ None → IsPlainWhole scopes.now (name_view name.now) (sign_view written.now.sign) (item_view written.now.value)
-        → stmt_leaves scopes.now (Assigned (Whole (name_view name.now)) (sign_view written.now.sign) (item_view written.now.value) written.now.semicolon)
-        ≡ step_view s) }
+    ensures node { IfOk result (λ a. first.new ≡ None → IsPlainWhole scopes.now (name_view name.now) (sign_view written.now.sign) (item_view written.now.value)
+        → stmt_leaves scopes.now (AssignedTree (Whole (name_view name.now)) (sign_view written.now.sign) (item_view written.now.value) written.now.semicolon)
+        ≡ step_view a.step) }
+    ensures promoted { IfOk result (λ a. a.promoted ≡ has is_promoted_by (item_type scopes.now (item_view written.now.value))) }
 {
     let declared = scopes.lookup(name.text);
     written_name(name.at, declared, first);
@@ -46,7 +59,11 @@ fn to_name<'t>(
     let may_reduce = may_reduce(around, &declared);
     let target = type_in(declared);
     fitting(&written.sign, may_reduce, part, target, first);
-    given_to_name(arena, scopes, name, written.sign, target, part.found)
+    let promoted = is_promoted(part.found);
+    let Ok(step) = given_to_name(arena, scopes, name, written.sign, target, part.found) else {
+        return Err(AllocError);
+    };
+    Ok(Assigned { step, promoted })
 }
 
 // An assignment to an element.
@@ -57,13 +74,14 @@ fn to_element<'t>(
     target: &Element<'_>,
     written: &Assignment<'_>,
     first: &mut Option<Breach>,
-) -> Result<Step<'t>, AllocError>
+) -> Result<Assigned<'t>, AllocError>
     ensures told { OnOk result (first.new ≡ least_from first.old
         (element_told scopes.now target.now (sign_view written.now.sign) (item_view written.now.value))) }
-    ensures node { IfOk result (λ s. first.new ≡ None
+    ensures node { IfOk result (λ a. first.new ≡ None
         → IsPlainElement scopes.now (name_view target.now.name) (exprs_view target.now.exprs) (sign_view written.now.sign) (item_view written.now.value)
-        → stmt_leaves scopes.now (Assigned (element_tree target.now) (sign_view written.now.sign) (item_view written.now.value) written.now.semicolon)
-        ≡ step_view s) }
+        → stmt_leaves scopes.now (AssignedTree (element_tree target.now) (sign_view written.now.sign) (item_view written.now.value) written.now.semicolon)
+        ≡ step_view a.step) }
+    ensures promoted { IfOk result (λ a. a.promoted ≡ has is_promoted_by (item_type scopes.now (item_view written.now.value))) }
 {
     let declared = scopes.lookup(target.name.text);
     written_name(target.name.at, declared, first);
@@ -75,11 +93,14 @@ fn to_element<'t>(
     };
     let target_type = element_type(found);
     fitting(&written.sign, false, part, target_type, first);
-    given_to_element(arena, found, written.sign, part.found)
+    let promoted = is_promoted(part.found);
+    let Ok(step) = given_to_element(arena, found, written.sign, part.found) else {
+        return Err(AllocError);
+    };
+    Ok(Assigned { step, promoted })
 }
 
-/// An assignment, in the forall around it if there is one. Where it breaks a rule, and where it doesn't run, the step is
-/// a stand-in, `Step::Nothing` or another: of such a step nothing is said.
+/// An assignment, in the forall around it if there is one. Of a step that is a stand-in nothing is said.
 ///
 /// # Errors
 /// Out of memory; of what was told then nothing is said.
@@ -89,12 +110,13 @@ pub fn assignment<'t>(
     around: &Option<Reducing<'_>>,
     written: &Assignment<'_>,
     first: &mut Option<Breach>,
-) -> Result<Step<'t>, AllocError>
+) -> Result<Assigned<'t>, AllocError>
     ensures told { OnOk result (AssignmentTold scopes.now (option_map reducing_view around.now) written.now first.old first.new) }
-    ensures node { IfOk result (λ s. first.new ≡ None
+    ensures node { IfOk result (λ a. first.new ≡ None
         → IsPlain scopes.now (target_view written.now.target) (sign_view written.now.sign) (item_view written.now.value)
         → stmt_leaves scopes.now
-        (Assigned (target_view written.now.target) (sign_view written.now.sign) (item_view written.now.value) written.now.semicolon) ≡ step_view s) }
+        (AssignedTree (target_view written.now.target) (sign_view written.now.sign) (item_view written.now.value) written.now.semicolon) ≡ step_view a.step) }
+    ensures promoted { IfOk result (λ a. a.promoted ≡ has is_promoted_by (item_type scopes.now (item_view written.now.value))) }
 {
     match &written.target {
         Target::Whole(name) => to_name(arena, scopes, around, name, written, first),

@@ -17,7 +17,7 @@ use dpl_syntax::Breach;
 use dpl_tree::{Arena, Expr, Item, Method, Name, Post, ScalarKind};
 use dpl_typed::leaves::{number, truth_word};
 use dpl_typed::{Made, Part};
-use dpl_typing::place::first_of_item;
+use dpl_types::place::first_of_item;
 use std::alloc::AllocError;
 
 // Whether what stands behind a base is a cell's read.

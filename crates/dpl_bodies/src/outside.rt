@@ -1,8 +1,7 @@
 // The rules C7 and C9 outside of loops' bodies: of promoted assignments, and of reductions in promoted expressions.
 // A promoted assignment doesn't read its target by an index list.
 
-ghost use Rattle.std.specs.Prelude.{◌≡◌, map, option_map, OnOk};
-ghost use Rattle.dpl_tree.specs.View.{item_view};
+ghost use Rattle.std.specs.Prelude.{◌≡◌, map, option_map};
 ghost use Rattle.dpl_tree.specs.Statements.{target_view};
 ghost use Rattle.dpl_rules.specs.Bodies.{inner_reduction as inner_reduction_of, inner_reductions as inner_reductions_of};
 ghost use Rattle.dpl_rules.specs.Bodies.{element_read as element_read_of, each, whole_target as whole_target_of};
@@ -13,13 +12,11 @@ ghost use Rattle.dpl_deeds.specs.View.{deed_view};
 ghost use Rattle.dpl_bodies.specs.Promoted.{promoted_by};
 
 use dpl_deeds::name::is_array;
-use dpl_deeds::promoted::is_promoted_item;
 use dpl_deeds::{Deed, Holding};
 use dpl_scopes::{Declared, Origin, Scopes};
 use dpl_syntax::{Breach, Code};
-use dpl_tree::{Item, Target};
+use dpl_tree::Target;
 use dpl_types::{note, owed};
-use std::alloc::{AllocError, Global};
 
 // C9: no reduction stands in a promoted expression or in a map's argument.
 fn inner_reduction(deed: &Deed<'_>, first: &mut Option<Breach>)
@@ -94,27 +91,22 @@ fn whole_target(declared: Option<Declared<'_>>, deeds: &[Deed<'_>], first: &mut 
     }
 }
 
-/// Tells what an assignment breaks as a promoted one, by the deeds of its right side.
-///
-/// # Errors
-/// Out of memory; nothing is told then.
+/// Tells what an assignment breaks as a promoted one, where its right side is promoted, by the deeds of that side.
 pub fn promoted_breaches(
-    alloc: Global,
     scopes: &Scopes<'_>,
     target: &Target<'_>,
-    value: &Item<'_>,
+    promoted: bool,
     deeds: &[Deed<'_>],
     first: &mut Option<Breach>,
-) -> Result<(), AllocError>
-    ensures { OnOk result (first.new ≡ least_from first.old (promoted_by scopes.now (target_view target.now) (item_view value.now) (map deed_view deeds.now))) }
+)
+    ensures { first.new ≡ least_from first.old (promoted_by scopes.now (target_view target.now) promoted (map deed_view deeds.now)) }
 {
     match target {
         Target::Whole(name) => {
-            if is_promoted_item(alloc, scopes, value)? {
+            if promoted {
                 whole_target(scopes.lookup(name.text), deeds, first);
             }
         }
         Target::Element(_) => {}
     }
-    Ok(())
 }

@@ -11,7 +11,7 @@ use Rattle.dpl_rules.specs.Types.{ValueType, Scalar, Range, Domain, Array, Promo
 use Rattle.dpl_rules.specs.Verdicts.{Part, type_by, broken_by, judged, all_known, owed, breach, owed_type, wanted, each_wanted}
 use Rattle.dpl_rules.specs.Operators.{single_breaches, index_breaches, slice_breaches, ranges_breaches}
 use Rattle.dpl_rules.specs.Breaches.{least_from}
-use Rattle.dpl_types.specs.Judges.{are_none}
+use Rattle.dpl_types.specs.Owes.{are_none}
 use Rattle.dpl_types.proofs.Breaches.{are_none_append}
 use Rattle.dpl_typed.specs.Typed.{is_rank, is_tuple_rank}
 use Rattle.dpl_brackets.specs.Parts.{all_are, is_tuple, are_index}

@@ -5,7 +5,7 @@ use Rattle.dpl_syntax.specs.declared.refusal.Breach.{Breach}
 use Rattle.dpl_rules.specs.Types.{ValueType, has, is_int, tuple_of}
 use Rattle.dpl_rules.specs.Verdicts.{Part}
 use Rattle.dpl_rules.specs.Breaches.{least_from}
-use Rattle.dpl_types.specs.Judges.{are_none}
+use Rattle.dpl_types.specs.Owes.{are_none}
 
 -- whether all parts have types and nothing is broken, and the first of a breach that was told before and these
 abbrev pub Passes : Bool → List Breach → Bool → Option Breach → Option Breach → Type 0

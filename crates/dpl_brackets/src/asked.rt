@@ -13,7 +13,7 @@ ghost use Rattle.dpl_nodes.specs.Typed.{dotted, int_view, range_view, domain_vie
 ghost use Rattle.dpl_rules.specs.Operators.{index_rank as index_rank_of, dim_verdict, contains_verdict, expand_verdict};
 ghost use Rattle.dpl_rules.specs.Types.{has, is_int, domain_of};
 ghost use Rattle.dpl_rules.specs.Verdicts.{with_type, owed as owed_of, wanted as wanted_of, all_known as all_known_of};
-ghost use Rattle.dpl_types.specs.Judges.{Owes};
+ghost use Rattle.dpl_types.specs.Owes.{Owes};
 ghost use Rattle.dpl_typed.specs.Typed.{types_of, part_view, is_rank};
 ghost use Rattle.dpl_typed.specs.Stands.{StandsFor, IsArgument, AreArguments};
 ghost use Rattle.dpl_typed.specs.Told.{Judges};
@@ -63,7 +63,8 @@ pub fn dim<'t>(
     of: Option<Typed<'t>>,
     first: &mut Option<Breach>,
 ) -> Made<'t>
-    ensures told { IfOk result (λ r. Judges (with_type (types_of of.entry) (λ t. dim_verdict at number_at (natural number) (domain_of t))) r first.old first.new) }
+    ensures told { IfOk result (λ r. Judges (with_type (types_of of.entry) (λ t. dim_verdict at number_at (natural number) (domain_of t))) r
+        first.old first.new) }
     ensures node { IfOk result (λ r. (f : Times → ExprTree Variable) → StandsFor of.entry f
         → StandsFor r (λ m. dotted (f Once) (Dim nowhere nowhere nowhere (natural number) nowhere))) }
 {
@@ -154,7 +155,8 @@ pub fn contains<'t>(
     of: Option<Typed<'t>>,
     first: &mut Option<Breach>,
 ) -> Made<'t>
-    ensures told { IfOk result (λ r. Judges (with_type (types_of of.entry) (λ t. contains_verdict at (map part_view parts.now) (index_rank_of t))) r first.old first.new) }
+    ensures told { IfOk result (λ r. Judges (with_type (types_of of.entry) (λ t. contains_verdict at (map part_view parts.now) (index_rank_of t))) r
+        first.old first.new) }
     ensures node { IfOk result (λ r. (f : Times → ExprTree Variable) (es : Exprs Variable) → StandsFor of.entry f → AreArguments parts.now es
         → StandsFor r (λ m. dotted (f Once) (Contains nowhere nowhere es nowhere))) }
 {

@@ -9,7 +9,7 @@ ghost use Rattle.dpl_nodes.specs.Typed.{in_square};
 ghost use Rattle.dpl_rules.specs.Operators.{locale_breaches as locale_breaches_of, square_verdict, round_verdict};
 ghost use Rattle.dpl_rules.specs.Types.{AllLocales};
 ghost use Rattle.dpl_rules.specs.Verdicts.{with_type, all_known as all_known_of};
-ghost use Rattle.dpl_types.specs.Judges.{Owes};
+ghost use Rattle.dpl_types.specs.Owes.{Owes};
 ghost use Rattle.dpl_typed.specs.Typed.{types_of, part_view};
 ghost use Rattle.dpl_typed.specs.Stands.{StandsFor, AreItems};
 ghost use Rattle.dpl_typed.specs.Told.{Judges};
@@ -22,8 +22,7 @@ use dpl_tree::Arena;
 use dpl_typed::part::{all_known, each_wanted};
 use dpl_typed::verdict::mistyped;
 use dpl_typed::{Made, Part, Typed};
-use dpl_types::Want;
-use dpl_types::verdict::wrong_rank;
+use dpl_types::{Want, wrong_rank};
 
 // The index of a locale: one int.
 fn locale_index(last: Place, parts: &[Part<'_>], first: &mut Option<Breach>) -> bool

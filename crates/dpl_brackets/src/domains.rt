@@ -11,7 +11,7 @@ ghost use Rattle.dpl_nodes.specs.Typed.{items_one, domain_view};
 ghost use Rattle.dpl_rules.specs.Operators.{ranges_breaches as ranges_breaches_of, ranges_verdict, over_verdict};
 ghost use Rattle.dpl_rules.specs.Types.{Domain as DomainOf};
 ghost use Rattle.dpl_rules.specs.Verdicts.{owed as owed_of, all_known as all_known_of};
-ghost use Rattle.dpl_types.specs.Judges.{Owes};
+ghost use Rattle.dpl_types.specs.Owes.{Owes};
 ghost use Rattle.dpl_typed.specs.Typed.{types_of, part_view, is_rank};
 ghost use Rattle.dpl_typed.specs.Stands.{StandsFor, AreItems};
 ghost use Rattle.dpl_typed.specs.Told.{Judges};

@@ -7,7 +7,7 @@ ghost use Rattle.dpl_memory.specs.Memory.{Variable};
 ghost use Rattle.dpl_nodes.specs.Typed.{array_named, in_square};
 ghost use Rattle.dpl_rules.specs.Operators.{single_index as single_index_of, index_breaches as index_breaches_of, element_verdict};
 ghost use Rattle.dpl_rules.specs.Verdicts.{all_known as all_known_of};
-ghost use Rattle.dpl_types.specs.Judges.{Owes};
+ghost use Rattle.dpl_types.specs.Owes.{Owes};
 ghost use Rattle.dpl_typed.specs.Typed.{types_of, part_view, is_rank};
 ghost use Rattle.dpl_typed.specs.Stands.{StandsFor, AreItems};
 ghost use Rattle.dpl_typed.specs.Told.{Judges};
@@ -20,8 +20,7 @@ use dpl_tree::{Arena, ScalarKind};
 use dpl_typed::node::{int, truth};
 use dpl_typed::part::{all_known, each_wanted};
 use dpl_typed::{Made, Part};
-use dpl_types::verdict::wrong_rank;
-use dpl_types::{Want, owed};
+use dpl_types::{Want, owed, wrong_rank};
 use std::alloc::AllocError;
 
 /// A whole array by its name: the kind of its elements, the rank of its domain, its slot and its name's place.

@@ -8,7 +8,7 @@ ghost use Rattle.dpl_nodes.specs.Typed.{in_square, range_view, domain_view};
 ghost use Rattle.dpl_rules.specs.Operators.{slice_breaches as slice_breaches_of, slice_verdict};
 ghost use Rattle.dpl_rules.specs.Types.{Range as RangeOf, Domain as DomainOf};
 ghost use Rattle.dpl_rules.specs.Verdicts.{all_known as all_known_of};
-ghost use Rattle.dpl_types.specs.Judges.{Owes};
+ghost use Rattle.dpl_types.specs.Owes.{Owes};
 ghost use Rattle.dpl_typed.specs.Typed.{part_view, is_rank};
 ghost use Rattle.dpl_typed.specs.Stands.{StandsFor, AreItems};
 ghost use Rattle.dpl_typed.specs.Told.{Judges};
@@ -21,8 +21,7 @@ use dpl_tree::Arena;
 use dpl_typed::node::{domain, range};
 use dpl_typed::part::{all_known, each_wanted};
 use dpl_typed::{Made, Part};
-use dpl_types::Want;
-use dpl_types::verdict::wrong_rank;
+use dpl_types::{Want, wrong_rank};
 use std::alloc::AllocError;
 
 // The ranges of a slice: unstrided, and as many as the rank.

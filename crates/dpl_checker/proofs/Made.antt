@@ -5,19 +5,22 @@ use Rattle.std.specs.Prelude.{option_map}
 use Rattle.dpl_syntax.specs.declared.place.Place.{Place}
 use Rattle.dpl_syntax.specs.declared.refusal.Breach.{Breach}
 use Rattle.dpl_syntax.proofs.Walks.{drop-at}
-use Rattle.dpl_language.specs.Tree.{ExprTree, ItemTree, VariablesTree, WithTree, StmtTree, If, While, For, Forall, Block, Body, WordBody, BlockBody, Stmts, NoStmts, Then, Else, ElseDo}
+use Rattle.dpl_language.specs.Tree.{ExprTree, ItemTree, VariablesTree, WithTree, DeclareTree, StmtTree, If, While, For, Forall, Block, Body, WordBody, BlockBody, Stmts, NoStmts, Then, Else, ElseDo}
 use Rattle.dpl_language.specs.Names.{Text}
 use Rattle.dpl_language.specs.Phrases.{intents_of}
 use Rattle.dpl_agreement.specs.Renamed.{renamed_expr, renamed_item, renamed_with, renamed_intents}
 use Rattle.dpl_agreement.proofs.RenamedParts.{intents_of-renamed}
 use Rattle.dpl_tree.specs.declared.statement.Stmt.{Stmt}
 use Rattle.dpl_tree.specs.Statements.{stmt_view, stmts_of}
-use Rattle.dpl_rules.specs.Breaches.{before, all_declarations, count_breaches, least_from}
+use Rattle.dpl_rules.specs.Breaches.{least_from}
 use Rattle.dpl_rules.specs.Bodies.{inner_reductions}
 use Rattle.dpl_rules.specs.Sights.{Scopes, enter}
 use Rattle.dpl_rules.specs.Types.{ValueType, has}
 use Rattle.dpl_rules.specs.Deeds.{Deed}
 use Rattle.dpl_rules.specs.Loops.{LoopWord, ForWord, ForallWord, in_loop, behind}
+use Rattle.dpl_types.proofs.Unbroken.{unbroken}
+use Rattle.dpl_limits.specs.declared.count.Counts.{Counts}
+use Rattle.dpl_limits.specs.Counts.{all_told}
 use Rattle.dpl_lowered.specs.Shapes.{nowhere}
 use Rattle.dpl_lowered.specs.LoweredExpressions.{Once, lowered_expr, lowered_item}
 use Rattle.dpl_lowered.specs.LoweredStatements.{with_intents}
@@ -42,23 +45,14 @@ use Rattle.dpl_checker.specs.Walks.{Walks, whole_told}
 use Rattle.dpl_checker.specs.Makes.{MakesStmt, MakesStmts, MakesInner, MakesBody, MakesElse, IsOpened}
 
 -- ---- where nothing was told at the end, nothing was told before
-some-least : (b : Breach) (bs : List Breach) → least_from (Some b) bs ≡ None → ⊥
-some-least b [] e = let f : Some b ≡ None = e in cc
-some-least b (c ∷ cs) e = some-least (if before c b then c else b) cs e
-
-unbroken : (o : Option Breach) (bs : List Breach) → least_from o bs ≡ None → o ≡ None
-unbroken None bs e = refl
-unbroken (Some a) bs e = absurd (some-least a bs e)
-
 pub untold : (o p : Option Breach) (bs : List Breach) → p ≡ least_from o bs → p ≡ None → o ≡ None
-untold o p bs told none = unbroken o bs (sym told ∙ none)
+untold o p bs told none = (unbroken o bs (sym told ∙ none)).0
 
-pub untold_before : {ss : Scopes} {n : ℕ} {ds : List Deed} {bs : List Breach} (a b : Walk) → Walks ss n ds bs a b → b.first ≡ None → a.first ≡ None
-untold_before {ss} {n} {ds} {bs} a b walks none = untold a.first b.first bs walks.told none
+pub untold_before : {ss : Scopes} {n : ℕ} {ds : List Deed} {bs : List Breach} {fs : List (DeclareTree Text)} (a b : Walk) → Walks ss n ds bs fs a b → b.first ≡ None → a.first ≡ None
+untold_before {ss} {n} {ds} {bs} {fs} a b walks none = untold a.first b.first bs walks.told none
 
-pub whole_untold : (ts : Stmts Text) (ds : List Deed) (o : Option Breach) → whole_told ts ds o ≡ None → o ≡ None
-whole_untold ts ds o none =
-    unbroken o (inner_reductions ds) (unbroken (least_from o (inner_reductions ds)) (count_breaches (all_declarations ts)) none)
+pub whole_untold : (counts : Counts) (ds : List Deed) (o : Option Breach) → whole_told counts ds o ≡ None → o ≡ None
+whole_untold counts ds o none = (unbroken o (inner_reductions ds) (unbroken (least_from o (inner_reductions ds)) (all_told counts) none).0).0
 
 -- ---- what is made of a part, where it is known in which scopes that stands
 pub inner_made_at : (ss rs : Scopes) (t : Body Text) (o : Option Breach) (steps : List Step) → rs ≡ ss → MakesInner rs t o steps → MakesInner ss t o steps

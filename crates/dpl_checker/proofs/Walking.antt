@@ -5,7 +5,7 @@ use Rattle.std.specs.Global.{Vec}
 use Rattle.dpl_syntax.specs.declared.place.Place.{Place}
 use Rattle.dpl_syntax.specs.declared.refusal.Breach.{Breach}
 use Rattle.dpl_syntax.proofs.Walks.{drop-at}
-use Rattle.dpl_language.specs.Tree.{ExprTree, ItemTree, VariablesTree, StmtTree, If, While, For, Forall, Coforall, On, Body, WordBody, BlockBody, Stmts, NoStmts, Else}
+use Rattle.dpl_language.specs.Tree.{ExprTree, ItemTree, VariablesTree, DeclareTree, StmtTree, If, While, For, Forall, Coforall, On, Body, WordBody, BlockBody, Stmts, NoStmts, Else}
 use Rattle.dpl_language.specs.Names.{Text}
 use Rattle.dpl_language.specs.Phrases.{intents_of}
 use Rattle.dpl_tree.specs.declared.statement.Stmt.{Stmt}
@@ -19,13 +19,16 @@ use Rattle.dpl_rules.specs.Loops.{LoopWord, ForWord, ForallWord, CoforallWord, t
 use Rattle.dpl_rules.specs.Deeds.{Deed, AForall, ACoforall, AnOn, held, expr_deeds, item_deeds}
 use Rattle.dpl_rules.specs.Doings.{with_deeds, stmt_deeds, body_deeds, stmts_deeds, else_deeds}
 use Rattle.dpl_rules.specs.Bodies.{ForallScope, names_of, forall_scope, forall_breaches, task_breaches, inner_reductions}
-use Rattle.dpl_rules.specs.Breaches.{stmt_breaches, body_breaches, stmts_breaches, else_breaches, top, top_sight, all_declarations, count_breaches, least_from}
+use Rattle.dpl_rules.specs.Breaches.{stmt_breaches, body_breaches, stmts_breaches, else_breaches, top, top_sight, declarations, body_declarations, else_declarations, all_declarations, count_breaches, least_from}
 use Rattle.dpl_rules.specs.Sound.{behind_all}
 use Rattle.dpl_types.proofs.Breaches.{least_from_append}
 use Rattle.dpl_deeds.specs.declared.deed.Deed.{Deed as DeedNode}
 use Rattle.dpl_deeds.specs.View.{deed_view, Adds}
 use Rattle.dpl_deeds.proofs.Steps.{added_behind}
 use Rattle.dpl_scopes.specs.Slots.{next_slot_in}
+use Rattle.dpl_limits.specs.declared.count.Counts.{Counts}
+use Rattle.dpl_limits.specs.Counts.{counts_after, none_yet, all_told}
+use Rattle.dpl_limits.proofs.Counting.{counts_after_append, counts_told}
 use Rattle.dpl_heads.specs.Told.{head_told}
 use Rattle.dpl_bound.specs.Bounds.{loop_type, slots_stmt, slots_stmts, slots_body, slots_else, slots_turn}
 use Rattle.dpl_checker.specs.declared.walk.Around.{Around}
@@ -36,39 +39,44 @@ use Rattle.dpl_checker.proofs.Slots.{slots_of_loop}
 use Rattle.dpl_checker.proofs.Steps.{told_then, told_before, adds_then}
 
 -- one part and then another
-walks_then : (ss vs : Scopes) (n m : ℕ) (ds es : List Deed) (bs cs : List Breach) (a b c : Walk) → Walks ss n ds bs a b → Walks vs m es cs b c → Walks vs m (ds ++ es) (bs ++ cs) a c
-walks_then ss vs n m ds es bs cs a b c first second = record {
+counted_then : (c d e : Counts) (fs gs : List (DeclareTree Text)) → d ≡ counts_after c fs → e ≡ counts_after d gs → e ≡ counts_after c (fs ++ gs)
+counted_then c d e fs gs first second = second ∙ ap (λ n. counts_after n gs) first ∙ sym (counts_after_append c fs gs)
+
+walks_then : (ss vs : Scopes) (n m : ℕ) (ds es : List Deed) (bs cs : List Breach) (fs gs : List (DeclareTree Text)) (a b c : Walk)
+    → Walks ss n ds bs fs a b → Walks vs m es cs gs b c → Walks vs m (ds ++ es) (bs ++ cs) (fs ++ gs) a c
+walks_then ss vs n m ds es bs cs fs gs a b c first second = record {
   scopes = second.scopes;
   slots = second.slots;
   deeds = adds_then a.deeds.items b.deeds.items c.deeds.items ds es first.deeds second.deeds;
   told = told_then a.first b.first c.first bs cs first.told second.told;
+  counts = counted_then a.counts b.counts c.counts fs gs first.counts second.counts;
 }
 
 -- a body where the scopes around it and the slots so far are known, and what stands behind `else`
 body_where : (ss : Scopes) (n : ℕ) (around : Around) (t : Body Text) (b c : Walk) → b.scopes ≡ ss → b.slots ≡ n → WalksBody around t b c
-    → Walks ss (slots_body (enter ss) t n) (body_deeds (enter ss) t) (body_breaches (sight_in (enter ss) around) t) b c
+    → Walks ss (slots_body (enter ss) t n) (body_deeds (enter ss) t) (body_breaches (sight_in (enter ss) around) t) (body_declarations t) b c
 body_where ss n around t b c e f w =
-    subst (λ m. Walks ss (slots_body (enter ss) t m) (body_deeds (enter ss) t) (body_breaches (sight_in (enter ss) around) t) b c) f
-    (subst (λ vs. Walks vs (slots_body (enter vs) t b.slots) (body_deeds (enter vs) t) (body_breaches (sight_in (enter vs) around) t) b c) e w)
+    subst (λ m. Walks ss (slots_body (enter ss) t m) (body_deeds (enter ss) t) (body_breaches (sight_in (enter ss) around) t) (body_declarations t) b c) f
+    (subst (λ vs. Walks vs (slots_body (enter vs) t b.slots) (body_deeds (enter vs) t) (body_breaches (sight_in (enter vs) around) t) (body_declarations t) b c) e w)
 
 else_where : (ss : Scopes) (n : ℕ) (around : Around) (t : Else Text) (b c : Walk) → b.scopes ≡ ss → b.slots ≡ n → WalksElse around t b c
-    → Walks ss (slots_else ss t n) (else_deeds (enter ss) t) (else_breaches (sight_in (enter ss) around) t) b c
+    → Walks ss (slots_else ss t n) (else_deeds (enter ss) t) (else_breaches (sight_in (enter ss) around) t) (else_declarations t) b c
 else_where ss n around t b c e f w =
-    subst (λ m. Walks ss (slots_else ss t m) (else_deeds (enter ss) t) (else_breaches (sight_in (enter ss) around) t) b c) f
-    (subst (λ vs. Walks vs (slots_else vs t b.slots) (else_deeds (enter vs) t) (else_breaches (sight_in (enter vs) around) t) b c) e w)
+    subst (λ m. Walks ss (slots_else ss t m) (else_deeds (enter ss) t) (else_breaches (sight_in (enter ss) around) t) (else_declarations t) b c) f
+    (subst (λ vs. Walks vs (slots_else vs t b.slots) (else_deeds (enter vs) t) (else_breaches (sight_in (enter vs) around) t) (else_declarations t) b c) e w)
 
 pub while_walks : (at : Place) (e : ExprTree Text) (body : Body Text) (around : Around) (a b c : Walk)
-    → Walks a.scopes a.slots (expr_deeds a.scopes false e) (condition_breaches (sight_in a.scopes around) e) a b → WalksBody around body b c
+    → Walks a.scopes a.slots (expr_deeds a.scopes false e) (condition_breaches (sight_in a.scopes around) e) [] a b → WalksBody around body b c
     → WalksStmt around (While at e body) a c
 while_walks at e body around a b c tested w =
     let ss = a.scopes in
     let n = a.slots in
     walks_then ss ss n (slots_body (enter ss) body n) (expr_deeds ss false e) (body_deeds (enter ss) body)
-    (condition_breaches (sight_in ss around) e) (body_breaches (sight_in (enter ss) around) body) a b c
+    (condition_breaches (sight_in ss around) e) (body_breaches (sight_in (enter ss) around) body) [] (body_declarations body) a b c
     tested (body_where ss n around body b c tested.scopes tested.slots w)
 
 pub if_walks : (at : Place) (e : ExprTree Text) (first : Body Text) (second : Else Text) (around : Around) (a b c d : Walk)
-    → Walks a.scopes a.slots (expr_deeds a.scopes false e) (condition_breaches (sight_in a.scopes around) e) a b → WalksBody around first b c → WalksElse around second c d
+    → Walks a.scopes a.slots (expr_deeds a.scopes false e) (condition_breaches (sight_in a.scopes around) e) [] a b → WalksBody around first b c → WalksElse around second c d
     → WalksStmt around (If at e first second) a d
 if_walks at e first second around a b c d tested w x =
     let ss = a.scopes in
@@ -76,39 +84,42 @@ if_walks at e first second around a b c d tested w x =
     let m = slots_body (enter ss) first n in
     let taken = body_where ss n around first b c tested.scopes tested.slots w in
     walks_then ss ss m (slots_else ss second m) (expr_deeds ss false e ++ body_deeds (enter ss) first) (else_deeds (enter ss) second)
-    (condition_breaches (sight_in ss around) e ++ body_breaches (sight_in (enter ss) around) first) (else_breaches (sight_in (enter ss) around) second) a c d
-    (walks_then ss ss n m (expr_deeds ss false e) (body_deeds (enter ss) first) (condition_breaches (sight_in ss around) e) (body_breaches (sight_in (enter ss) around) first) a b c tested taken)
+    (condition_breaches (sight_in ss around) e ++ body_breaches (sight_in (enter ss) around) first) (else_breaches (sight_in (enter ss) around) second)
+    (body_declarations first) (else_declarations second) a c d
+    (walks_then ss ss n m (expr_deeds ss false e) (body_deeds (enter ss) first) (condition_breaches (sight_in ss around) e) (body_breaches (sight_in (enter ss) around) first) [] (body_declarations first) a b c tested taken)
     (else_where ss m around second c d taken.scopes taken.slots x)
 
 pub on_walks : (at : Place) (e : ExprTree Text) (body : Body Text) (around : Around) (a b c : Walk)
-    → Walks a.scopes a.slots (held at AnOn ++ expr_deeds a.scopes false e) (on_breaches (sight_in a.scopes around) e) a b → WalksBody around body b c
+    → Walks a.scopes a.slots (held at AnOn ++ expr_deeds a.scopes false e) (on_breaches (sight_in a.scopes around) e) [] a b → WalksBody around body b c
     → WalksStmt around (On at e body) a c
 on_walks at e body around a b c sent w =
     let ss = a.scopes in
     let n = a.slots in
     walks_then ss ss n (slots_body (enter ss) body n) (held at AnOn ++ expr_deeds ss false e) (body_deeds (enter ss) body)
-    (on_breaches (sight_in ss around) e) (body_breaches (sight_in (enter ss) around) body) a b c
+    (on_breaches (sight_in ss around) e) (body_breaches (sight_in (enter ss) around) body) [] (body_declarations body) a b c
     sent (body_where ss n around body b c sent.scopes sent.slots w)
 
 -- ---- scopes that are entered and left
 -- a statement, and several, in a scope of their own
 abbrev pub StmtInside : Scopes → Around → StmtTree Text → Walk → Walk → Type 0
-StmtInside ss around t a b = Walks ss (slots_stmt (enter ss) t a.slots) (stmt_deeds (enter ss) t) (stmt_breaches (sight_in (enter ss) around) t) a b
+StmtInside ss around t a b = Walks ss (slots_stmt (enter ss) t a.slots) (stmt_deeds (enter ss) t) (stmt_breaches (sight_in (enter ss) around) t) (declarations t) a b
 
 abbrev pub StmtsInside : Scopes → Around → Stmts Text → Walk → Walk → Type 0
-StmtsInside ss around ts a b = Walks ss (slots_stmts (enter ss) ts a.slots) (stmts_deeds (enter ss) ts) (stmts_breaches (sight_in (enter ss) around) ts) a b
+StmtsInside ss around ts a b = Walks ss (slots_stmts (enter ss) ts a.slots) (stmts_deeds (enter ss) ts) (stmts_breaches (sight_in (enter ss) around) ts) (all_declarations ts) a b
 
 pub stmt_left : (ss entered : Scopes) (around : Around) (t : StmtTree Text) (a b : Walk) (left : Scopes) → entered ≡ enter ss
     → WalksStmt around t (record a { scopes = entered }) b → left ≡ drop 1 b.scopes → StmtInside ss around t a (record b { scopes = left })
 stmt_left ss entered around t a b left e w l =
-    let inside = subst (λ vs. Walks (behind vs t) (slots_stmt vs t a.slots) (stmt_deeds vs t) (stmt_breaches (sight_in vs around) t) a b) e (record { scopes = w.scopes; slots = w.slots; deeds = w.deeds; told = w.told }) in
-    record { scopes = l ∙ ap (drop 1) inside.scopes ∙ leave_behind [] ss t; slots = inside.slots; deeds = inside.deeds; told = inside.told }
+    let inside = subst (λ vs. Walks (behind vs t) (slots_stmt vs t a.slots) (stmt_deeds vs t) (stmt_breaches (sight_in vs around) t) (declarations t) a b) e
+    (record { scopes = w.scopes; slots = w.slots; deeds = w.deeds; told = w.told; counts = w.counts }) in
+    record { scopes = l ∙ ap (drop 1) inside.scopes ∙ leave_behind [] ss t; slots = inside.slots; deeds = inside.deeds; told = inside.told; counts = inside.counts }
 
 pub stmts_left : (ss entered : Scopes) (around : Around) (ts : Stmts Text) (a b : Walk) (left : Scopes) → entered ≡ enter ss
     → WalksStmts around ts (record a { scopes = entered }) b → left ≡ drop 1 b.scopes → StmtsInside ss around ts a (record b { scopes = left })
 stmts_left ss entered around ts a b left e w l =
-    let inside = subst (λ vs. Walks (behind_all vs ts) (slots_stmts vs ts a.slots) (stmts_deeds vs ts) (stmts_breaches (sight_in vs around) ts) a b) e (record { scopes = w.scopes; slots = w.slots; deeds = w.deeds; told = w.told }) in
-    record { scopes = l ∙ ap (drop 1) inside.scopes ∙ leave_behind_all [] ss ts; slots = inside.slots; deeds = inside.deeds; told = inside.told }
+    let inside = subst (λ vs. Walks (behind_all vs ts) (slots_stmts vs ts a.slots) (stmts_deeds vs ts) (stmts_breaches (sight_in vs around) ts) (all_declarations ts) a b) e
+    (record { scopes = w.scopes; slots = w.slots; deeds = w.deeds; told = w.told; counts = w.counts }) in
+    record { scopes = l ∙ ap (drop 1) inside.scopes ∙ leave_behind_all [] ss ts; slots = inside.slots; deeds = inside.deeds; told = inside.told; counts = inside.counts }
 
 leave_body : (ss : Scopes) (t : Body Text) → drop 1 (behind_body (enter ss) t) ≡ ss
 leave_body ss (WordBody at t) = leave_behind [] ss t
@@ -116,10 +127,11 @@ leave_body ss (BlockBody from ts upto) = leave_behind_all [] ss ts
 
 pub body_left : (ss entered : Scopes) (around : Around) (t : Body Text) (a b : Walk) (left : Scopes) → entered ≡ enter ss
     → WalksInner around t (record a { scopes = entered }) b → left ≡ drop 1 b.scopes
-    → Walks ss (slots_body (enter ss) t a.slots) (body_deeds (enter ss) t) (body_breaches (sight_in (enter ss) around) t) a (record b { scopes = left })
+    → Walks ss (slots_body (enter ss) t a.slots) (body_deeds (enter ss) t) (body_breaches (sight_in (enter ss) around) t) (body_declarations t) a (record b { scopes = left })
 body_left ss entered around t a b left e w l =
-    let inside = subst (λ vs. Walks (behind_body vs t) (slots_body vs t a.slots) (body_deeds vs t) (body_breaches (sight_in vs around) t) a b) e (record { scopes = w.scopes; slots = w.slots; deeds = w.deeds; told = w.told }) in
-    record { scopes = l ∙ ap (drop 1) inside.scopes ∙ leave_body ss t; slots = inside.slots; deeds = inside.deeds; told = inside.told }
+    let inside = subst (λ vs. Walks (behind_body vs t) (slots_body vs t a.slots) (body_deeds vs t) (body_breaches (sight_in vs around) t) (body_declarations t) a b) e
+    (record { scopes = w.scopes; slots = w.slots; deeds = w.deeds; told = w.told; counts = w.counts }) in
+    record { scopes = l ∙ ap (drop 1) inside.scopes ∙ leave_body ss t; slots = inside.slots; deeds = inside.deeds; told = inside.told; counts = inside.counts }
 
 -- the same where the walk is known to be the one behind it
 pub stmt_left_at : (ss entered : Scopes) (around : Around) (t : StmtTree Text) (a b m : Walk) (left : Scopes) → entered ≡ enter ss
@@ -152,6 +164,7 @@ loop_walks word xs item a rs ds p q t b typed told added opened once is =
       slots = ap (λ vs. max a.slots (next_slot_in vs)) stands ∙ slots_of_loop ss word xs item a.slots;
       deeds = added;
       told = told_then a.first p q (head_told ss word xs item) twice told once;
+      counts = refl;
     })
 
 pub for_walks : (at : Place) (xs : VariablesTree Text) (word : Place) (item : ItemTree Text) (body : Body Text) (around : Around) (a b c : Walk) (left : Scopes)
@@ -162,8 +175,9 @@ for_walks at xs word item body around a b c left opened w l =
     let vs = of_variables ss ForWord xs item in
     let n = slots_turn ss ForWord xs item a.slots in
     let turns = body_where vs n around body b c opened.scopes opened.slots w in
-    let all = walks_then vs vs n (slots_body (enter vs) body n) (item_deeds ss false item) (body_deeds (enter vs) body) (header_breaches ss ForWord xs item) (body_breaches (sight_in (enter vs) around) body) a b c opened turns in
-    record { scopes = variables_left ss ForWord xs item c.scopes left turns.scopes l; slots = all.slots; deeds = all.deeds; told = all.told }
+    let all = walks_then vs vs n (slots_body (enter vs) body n) (item_deeds ss false item) (body_deeds (enter vs) body) (header_breaches ss ForWord xs item) (body_breaches (sight_in (enter vs) around) body)
+    [] (body_declarations body) a b c opened turns in
+    record { scopes = variables_left ss ForWord xs item c.scopes left turns.scopes l; slots = all.slots; deeds = all.deeds; told = all.told; counts = all.counts }
 
 -- what a loop's body adds stands behind the deeds before it
 behind_start : (start : ℕ) (old new : List DeedNode) (ds : List Deed) → start ≡ length old → Adds ds old new → map deed_view (drop start new) ≡ ds
@@ -217,6 +231,7 @@ module _ (at : Place) (xs : VariablesTree Text) (word : Place) (item : ItemTree 
         deeds = adds_then a.deeds.items intended.items c.deeds.items (head ++ with_deeds intents) ds shared turns.deeds;
         told = told_around a.first b.first c.first told (header_breaches ss ForallWord xs item ++ with_breaches ss intents)
             (body_breaches (sight_in (enter vs) inner) body) (forall_breaches (forall_scope ss xs intents) ds) opened.told turns.told does;
+        counts = counted_then a.counts b.counts c.counts [] (body_declarations body) opened.counts turns.counts;
       }
 
   pub coforall_walks : (depth start : ℕ) (a : Walk) (marked : Vec DeedNode) (b : Walk) (intended : Vec DeedNode) (c : Walk) (left : Scopes) (told : Option Breach)
@@ -249,6 +264,7 @@ module _ (at : Place) (xs : VariablesTree Text) (word : Place) (item : ItemTree 
         deeds = adds_then a.deeds.items intended.items c.deeds.items (head ++ with_deeds intents) ds shared tasks.deeds;
         told = told_around a.first b.first c.first told (header_breaches ss CoforallWord xs item ++ with_breaches ss intents)
             (body_breaches (sight_in (enter vs) inner) body) (task_breaches (length ss) (with_deeds intents ++ ds)) opened.told tasks.told does;
+        counts = counted_then a.counts b.counts c.counts [] (body_declarations body) opened.counts tasks.counts;
       }
 
 -- ---- statements, one behind the other
@@ -258,12 +274,13 @@ pub record StillWalks (around : Around) (now : Walk) (left : Stmts Text) (old : 
   pub slots : slots_stmts now.scopes left now.slots ≡ slots_stmts old.scopes all old.slots
   pub deeds : map deed_view now.deeds.items ++ stmts_deeds now.scopes left ≡ map deed_view old.deeds.items ++ stmts_deeds old.scopes all
   pub told : least_from now.first (stmts_breaches (sight_in now.scopes around) left) ≡ least_from old.first (stmts_breaches (sight_in old.scopes around) all)
+  pub counts : counts_after now.counts (all_declarations left) ≡ counts_after old.counts (all_declarations all)
 
 pub still_begun : (around : Around) (a : Walk) (ts : Stmts Text) → StillWalks around a ts a ts
-still_begun around a ts = record { scopes = refl; slots = refl; deeds = refl; told = refl }
+still_begun around a ts = record { scopes = refl; slots = refl; deeds = refl; told = refl; counts = refl }
 
 pub still_then : (around : Around) (a b c : Walk) (ts us vs : Stmts Text) → StillWalks around a ts b us → StillWalks around b us c vs → StillWalks around a ts c vs
-still_then around a b c ts us vs f g = record { scopes = f.scopes ∙ g.scopes; slots = f.slots ∙ g.slots; deeds = f.deeds ∙ g.deeds; told = f.told ∙ g.told }
+still_then around a b c ts us vs f g = record { scopes = f.scopes ∙ g.scopes; slots = f.slots ∙ g.slots; deeds = f.deeds ∙ g.deeds; told = f.told ∙ g.told; counts = f.counts ∙ g.counts }
 
 pub still_step : (around : Around) (xs : List Stmt) (k : ℕ) (x : Stmt) (a b : Walk) → k < length xs → x ≡ get_or xs k x → WalksStmt around (stmt_view x) a b
     → StillWalks around b (stmts_of (drop (k + 1) xs)) a (stmts_of (drop k xs))
@@ -280,23 +297,25 @@ still_step around xs k x a b within is w =
       told = ap (λ ss. least_from b.first (stmts_breaches (sight_in ss around) ts)) w.scopes
           ∙ ap (λ o. least_from o (stmts_breaches (sight_in vs around) ts)) w.told
           ∙ sym (least_from_append a.first (stmt_breaches (sight_in a.scopes around) t) (stmts_breaches (sight_in vs around) ts));
+      counts = ap (λ n. counts_after n (all_declarations ts)) w.counts ∙ sym (counts_after_append a.counts (declarations t) (all_declarations ts));
     })
 
 pub still_ended : (around : Around) (now old : Walk) (left all : Stmts Text) → left ≡ NoStmts → StillWalks around now left old all → WalksStmts around all old now
 still_ended around now old left all none walks =
     let end = subst (λ ts. StillWalks around now ts old all) none walks in
-    record { scopes = end.scopes; slots = end.slots; deeds = sym (append-nil (map deed_view now.deeds.items)) ∙ end.deeds; told = end.told }
+    record { scopes = end.scopes; slots = end.slots; deeds = sym (append-nil (map deed_view now.deeds.items)) ∙ end.deeds; told = end.told; counts = end.counts }
 
 -- ---- a program
 -- outside of foralls and tasks
 abbrev pub outside : Around
 outside = record { forall = None; in_task = false }
 
-module _ (ts : Stmts Text) (a b : Walk) (scopes : a.scopes ≡ top) (slots : a.slots ≡ 0) (deeds : a.deeds.items ≡ []) (first : a.first ≡ None) (walks : WalksStmts outside ts a b) where
-  all_walks : Walks (behind_all top ts) (slots_stmts top ts 0) (stmts_deeds top ts) (stmts_breaches top_sight ts) a b
+module _ (ts : Stmts Text) (a b : Walk) (scopes : a.scopes ≡ top) (slots : a.slots ≡ 0) (deeds : a.deeds.items ≡ []) (first : a.first ≡ None) (counts : a.counts ≡ none_yet)
+    (walks : WalksStmts outside ts a b) where
+  all_walks : Walks (behind_all top ts) (slots_stmts top ts 0) (stmts_deeds top ts) (stmts_breaches top_sight ts) (all_declarations ts) a b
   all_walks =
-      subst (λ n. Walks (behind_all top ts) (slots_stmts top ts n) (stmts_deeds top ts) (stmts_breaches top_sight ts) a b) slots
-      (subst (λ vs. Walks (behind_all vs ts) (slots_stmts vs ts a.slots) (stmts_deeds vs ts) (stmts_breaches (sight_in vs outside) ts) a b) scopes walks)
+      subst (λ n. Walks (behind_all top ts) (slots_stmts top ts n) (stmts_deeds top ts) (stmts_breaches top_sight ts) (all_declarations ts) a b) slots
+      (subst (λ vs. Walks (behind_all vs ts) (slots_stmts vs ts a.slots) (stmts_deeds vs ts) (stmts_breaches (sight_in vs outside) ts) (all_declarations ts) a b) scopes walks)
 
   pub program_behind : b.scopes ≡ behind_all top ts
   program_behind = all_walks.scopes
@@ -304,14 +323,15 @@ module _ (ts : Stmts Text) (a b : Walk) (scopes : a.scopes ≡ top) (slots : a.s
   pub program_slots : b.slots ≡ slots_stmts top ts 0
   program_slots = all_walks.slots
 
-  pub program_told : whole_told ts (map deed_view b.deeds.items) b.first
+  pub program_told : whole_told b.counts (map deed_view b.deeds.items) b.first
       ≡ least_from None (stmts_breaches top_sight ts ++ inner_reductions (stmts_deeds top ts) ++ count_breaches (all_declarations ts))
   program_told =
       let told = stmts_breaches top_sight ts in
       let ds = stmts_deeds top ts in
       let inner = inner_reductions ds in
       let counted = count_breaches (all_declarations ts) in
-      ap (λ es. whole_told ts es b.first) (all_walks.deeds ∙ ap (λ es. map deed_view es ++ ds) deeds)
-      ∙ ap (whole_told ts ds) (all_walks.told ∙ ap (λ o. least_from o told) first)
+      ap (λ es. whole_told b.counts es b.first) (all_walks.deeds ∙ ap (λ es. map deed_view es ++ ds) deeds)
+      ∙ ap (whole_told b.counts ds) (all_walks.told ∙ ap (λ o. least_from o told) first)
+      ∙ ap (least_from (least_from (least_from None told) inner)) (ap all_told (all_walks.counts ∙ ap (λ c. counts_after c (all_declarations ts)) counts) ∙ counts_told (all_declarations ts))
       ∙ ap (λ o. least_from o counted) (sym (least_from_append None told inner))
       ∙ sym (least_from_append None (told ++ inner) counted)

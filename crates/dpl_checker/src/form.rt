@@ -1,7 +1,7 @@
 // The statements that hold no other, and the heads of loops: what each tells and does, what is in sight behind it, and its step.
 // A loop's head opens the scope of its variables.
 
-ghost use Rattle.std.specs.Prelude.{◌++◌, false, OnOk, IfOk};
+ghost use Rattle.std.specs.Prelude.{◌++◌, [], false, OnOk, IfOk};
 ghost use Rattle.dpl_language.specs.Tree.{Declare as DeclareTree, Assigned as AssignedTree, Call as CallTree, Write as WriteTree};
 ghost use Rattle.dpl_tree.specs.View.{name_view, expr_view, item_view};
 ghost use Rattle.dpl_tree.specs.Declarations.{optional, declare_view};
@@ -45,7 +45,13 @@ pub(crate) fn declare<'t>(
     let Ok(made) = declaration(walk.arena, &walk.scopes, written, &mut walk.first) else {
         return Err(AllocError);
     };
-    let Ok(()) = declaration_deeds(walk.arena, &walk.scopes, written, &mut walk.deeds) else {
+    let Ok(()) = declaration_deeds(
+        walk.arena,
+        &walk.scopes,
+        written,
+        made.is_apart,
+        &mut walk.deeds,
+    ) else {
         return Err(AllocError);
     };
     let declared = made.declared;
@@ -56,6 +62,7 @@ pub(crate) fn declare<'t>(
         return Err(AllocError);
     };
     walk.count_slots();
+    walk.counts = walk.counts.with(written);
     Ok(made.step)
 }
 
@@ -70,7 +77,7 @@ pub(crate) fn assigned<'t>(
     ensures makes { IfOk result (MakesStmt walk.old.scopes (AssignedTree (target_view written.now.target) (sign_view written.now.sign)
         (item_view written.now.value) written.now.semicolon) walk.new.first) }
 {
-    let Ok(step) = assignment(
+    let Ok(made) = assignment(
         walk.arena,
         &walk.scopes,
         &around.forall,
@@ -89,16 +96,13 @@ pub(crate) fn assigned<'t>(
     ) else {
         return Err(AllocError);
     };
-    let Ok(()) = promoted_breaches(
-        walk.arena.alloc(),
+    promoted_breaches(
         &walk.scopes,
         &written.target,
-        &written.value,
+        made.promoted,
         behind(&walk.deeds, start),
         &mut walk.first,
-    ) else {
-        return Err(AllocError);
-    };
+    );
     let Ok(()) = target_deeds(
         walk.arena,
         &walk.scopes,
@@ -108,7 +112,7 @@ pub(crate) fn assigned<'t>(
     ) else {
         return Err(AllocError);
     };
-    Ok(step)
+    Ok(made.step)
 }
 
 /// A cell's call, which isn't run.
@@ -223,7 +227,8 @@ pub(crate) fn open_shared<'t>(
     over: &Item<'t>,
     with: &Option<With<'t>>,
 ) -> Result<(Opened<'t>, &'t [Intent]), AllocError>
-    ensures walks { OnOk result (WalksShared (word_view word) (variables_view variables.now) (item_view over.now) (optional with_view with.now) walk.old walk.new) }
+    ensures walks { OnOk result (WalksShared (word_view word) (variables_view variables.now) (item_view over.now) (optional with_view with.now)
+        walk.old walk.new) }
     ensures makes { IfOk result (λ o. MakesHead walk.old.scopes (word_view word) (variables_view variables.now) (item_view over.now) walk.new.first o.0) }
     ensures reduced { IfOk result (λ o. MakesReduced walk.old.scopes (optional with_view with.now) walk.new.first o.1.now) }
 {
@@ -242,7 +247,7 @@ pub(crate) fn tested<'t>(
     e: &Expr<'t>,
 ) -> Result<Option<&'t BoolExpr<'t>>, AllocError>
     ensures walks { (around : AroundNode) → OnOk result (Walks walk.old.scopes walk.old.slots (expr_deeds_of walk.old.scopes false (expr_view e.now))
-        (condition_breaches (sight_in walk.old.scopes around) (expr_view e.now)) walk.old walk.new) }
+        (condition_breaches (sight_in walk.old.scopes around) (expr_view e.now)) [] walk.old walk.new) }
     ensures makes { IfOk result (MakesTruth walk.old.scopes (expr_view e.now) walk.new.first) }
 {
     let Ok(tested) = condition(walk.arena, &walk.scopes, e, &mut walk.first) else {
@@ -256,8 +261,9 @@ pub(crate) fn tested<'t>(
 
 /// What `on` stands before.
 pub(crate) fn sent<'t>(walk: &mut Walk<'t>, at: Place, e: &Expr<'t>) -> Result<(), AllocError>
-    ensures { (around : AroundNode) → OnOk result (Walks walk.old.scopes walk.old.slots (held_of at AnOn ++ expr_deeds_of walk.old.scopes false (expr_view e.now))
-        (on_breaches (sight_in walk.old.scopes around) (expr_view e.now)) walk.old walk.new) }
+    ensures { (around : AroundNode) → OnOk result (Walks walk.old.scopes walk.old.slots
+        (held_of at AnOn ++ expr_deeds_of walk.old.scopes false (expr_view e.now)) (on_breaches (sight_in walk.old.scopes around) (expr_view e.now)) []
+        walk.old walk.new) }
 {
     let Ok(()) = on(walk.arena, &walk.scopes, e, &mut walk.first) else {
         return Err(AllocError);

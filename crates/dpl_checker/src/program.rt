@@ -7,17 +7,18 @@ ghost use Rattle.dpl_rules.specs.Breaches.{top, first_breach as first_breach_of}
 ghost use Rattle.dpl_rules.specs.Sound.{behind_all, refusal_by, sets_fit as sets_fit_of};
 ghost use Rattle.dpl_deeds.specs.View.{deed_view};
 ghost use Rattle.dpl_bound.specs.Bounds.{slots_of};
+ghost use Rattle.dpl_limits.specs.Counts.{none_yet};
 ghost use Rattle.dpl_checker.specs.Walks.{whole_told};
 ghost use Rattle.dpl_checker.specs.Makes.{MakesStmts};
 
 use crate::statement::stmts;
 use crate::walk::{Around, Walk};
 use dpl_bodies::outside::inner_reductions;
-use dpl_limits::{limits, sets_fit};
+use dpl_limits::{Counts, sets_fit};
 use dpl_nodes::Step;
 use dpl_scopes::Scopes;
 use dpl_syntax::{Breach, Code, Refusal};
-use dpl_tree::{Arena, Program, Stmt};
+use dpl_tree::{Arena, Program};
 use std::alloc::{AllocError, Global};
 
 /// A program that was walked over.
@@ -35,7 +36,7 @@ pub struct Walked<'t> {
 
 // A walk before any statement.
 fn begin<'t>(arena: Arena<'t>) -> Result<Walk<'t>, AllocError>
-    ensures { IfOk result (λ walk. (walk.scopes ≡ top) × (walk.slots ≡ 0) × (walk.deeds.items ≡ []) × (walk.first ≡ None)) }
+    ensures { IfOk result (λ walk. (walk.scopes ≡ top) × (walk.slots ≡ 0) × (walk.deeds.items ≡ []) × (walk.first ≡ None) × (walk.counts ≡ none_yet)) }
 {
     let alloc = arena.alloc();
     let Ok(scopes) = Scopes::new(alloc) else {
@@ -47,15 +48,16 @@ fn begin<'t>(arena: Arena<'t>) -> Result<Walk<'t>, AllocError>
         deeds: Vec::new(alloc),
         first: None,
         slots: 0,
+        counts: Counts::begin(),
     })
 }
 
 // Behind a walk over all statements of a program: what is told of all deeds and of all declarations.
-fn tell_whole<'t>(walk: &mut Walk<'t>, statements: &[Stmt<'t>])
-    ensures { walk.new ≡ record walk.old { first = whole_told (stmts_of statements.now) (map deed_view walk.old.deeds.items) walk.old.first } }
+fn tell_whole(walk: &mut Walk<'_>)
+    ensures { walk.new ≡ record walk.old { first = whole_told walk.old.counts (map deed_view walk.old.deeds.items) walk.old.first } }
 {
     inner_reductions(&walk.deeds, &mut walk.first);
-    limits(statements, &mut walk.first);
+    walk.counts.tell(&mut walk.first);
 }
 
 /// Walks over a program once. Nodes lie in the arena.
@@ -78,7 +80,7 @@ pub fn walk_over<'t>(arena: Arena<'t>, program: &Program<'t>) -> Result<Walked<'
     let Ok(steps) = stmts(&mut walk, outside, program.stmts) else {
         return Err(AllocError);
     };
-    tell_whole(&mut walk, program.stmts);
+    tell_whole(&mut walk);
     Ok(Walked {
         first: walk.first,
         steps,

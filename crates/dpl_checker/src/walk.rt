@@ -1,11 +1,12 @@
 // How far the walk over a program is: the names in sight, what the program did so far, the first violation that was told, and how many slots
-// there are. Its parts are changed by the functions of the forms, one after the other.
+// and declarations there are. Its parts are changed by the functions of the forms, one after the other.
 
 ghost use Rattle.std.specs.Prelude.{◌≡◌, max};
 ghost use Rattle.dpl_scopes.specs.Slots.{next_slot_in};
 
 use dpl_assignments::around::Reducing;
 use dpl_deeds::Deed;
+use dpl_limits::Counts;
 use dpl_nodes::Step;
 use dpl_scopes::Scopes;
 use dpl_syntax::Breach;
@@ -25,7 +26,8 @@ pub(crate) struct Around<'t> {
     pub in_task: bool,
 }
 
-/// The names in sight, what the program did so far, the first violation that was told, and how many slots a frame needs for what is behind.
+/// The names in sight, what the program did so far, the first violation that was told, how many slots a frame needs for what is behind, and
+/// how many names and cells that declares.
 #[derive(Drop)]
 pub(crate) struct Walk<'t> {
     pub arena: Arena<'t>,
@@ -33,6 +35,7 @@ pub(crate) struct Walk<'t> {
     pub deeds: Vec<Deed<'t>>,
     pub first: Option<Breach>,
     pub slots: usize,
+    pub counts: Counts,
 }
 
 impl<'t> Walk<'t> {

@@ -32,7 +32,7 @@ use Rattle.dpl_typed.specs.Stands.{StandsFor}
 use Rattle.dpl_typed.specs.Told.{Tells}
 use Rattle.dpl_typed.specs.Typed.{type_of_typed, types_of, typed_view, is_rank}
 use Rattle.dpl_bound.specs.Sights.{AreKnownScopes}
-use Rattle.dpl_assignments.proofs.Unbroken.{unbroken}
+use Rattle.dpl_types.proofs.Unbroken.{unbroken}
 use Rattle.dpl_declarations.specs.declared.found.Found.{Found}
 use Rattle.dpl_declarations.specs.Plain.{ArePlainItems, IsPlainInitial, IsPlainAs}
 use Rattle.dpl_declarations.specs.Told.{over_told}

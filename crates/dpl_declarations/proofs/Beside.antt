@@ -33,7 +33,7 @@ use Rattle.dpl_typed.specs.Where.{WhereSimpleItem}
 use Rattle.dpl_typed.proofs.Standing.{item-once, stands-item}
 use Rattle.dpl_bound.specs.Sights.{bound_in, AreKnownScopes}
 use Rattle.dpl_bound.specs.Run.{side_leaves}
-use Rattle.dpl_assignments.proofs.Unbroken.{unbroken}
+use Rattle.dpl_types.proofs.Unbroken.{unbroken}
 use Rattle.dpl_mapped.specs.Named.{IsPlainMapped, IsMappedAs}
 use Rattle.dpl_declarations.specs.Plain.{IsSimpleMapped, ArePlainItems, IsPlainInit}
 use Rattle.dpl_declarations.specs.Made.{placing_or, created_placing, IsGivenBy, IsBeside}

@@ -24,7 +24,7 @@ use Rattle.dpl_typed.specs.Typed.{type_of_typed, types_of, is_rank, has_node}
 use Rattle.dpl_bound.specs.Sights.{AreKnownScopes}
 use Rattle.dpl_bound.proofs.Sights.{lookup-known}
 use Rattle.dpl_assignments.proofs.Sides.{item-unread}
-use Rattle.dpl_assignments.proofs.Unbroken.{owed-holds}
+use Rattle.dpl_types.proofs.Unbroken.{owed-holds}
 use Rattle.dpl_declarations.specs.Told.{over_told}
 
 -- ---- names

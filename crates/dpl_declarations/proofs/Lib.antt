@@ -1,4 +1,5 @@
 pub mod Apart
+pub mod FoundTypes
 pub mod Known
 pub mod Placed
 pub mod Overs

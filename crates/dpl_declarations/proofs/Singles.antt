@@ -34,7 +34,7 @@ use Rattle.dpl_typed.specs.Told.{TellsPart}
 use Rattle.dpl_typed.specs.Typed.{type_of_typed, types_of, typed_view, typed_item, is_rank, has_node, part_view}
 use Rattle.dpl_bound.specs.Sights.{AreKnownScopes}
 use Rattle.dpl_sound.proofs.Given.{both_so}
-use Rattle.dpl_assignments.proofs.Unbroken.{unbroken, owed-holds}
+use Rattle.dpl_types.proofs.Unbroken.{unbroken, owed-holds}
 use Rattle.dpl_mapped.specs.Named.{IsPlainMapped, IsMappedAs}
 use Rattle.dpl_declarations.specs.declared.found.Found.{Found}
 use Rattle.dpl_declarations.specs.declared.initial.Given.{Given}

@@ -24,7 +24,7 @@ use Rattle.dpl_nodes.specs.Steps.{step_view}
 use Rattle.dpl_typed.specs.Leaves.{kind_by, leaf_by}
 use Rattle.dpl_bound.specs.Sights.{bound_in, AreKnownScopes}
 use Rattle.dpl_bound.specs.Run.{stmt_leaves}
-use Rattle.dpl_assignments.proofs.Unbroken.{unbroken}
+use Rattle.dpl_types.proofs.Unbroken.{unbroken}
 use Rattle.dpl_declarations.specs.declared.found.Found.{Found}
 use Rattle.dpl_declarations.specs.Plain.{IsOpen, IsPlain}
 use Rattle.dpl_declarations.specs.Told.{type_as, told_as, TellsAs}

@@ -2,10 +2,12 @@
 // A name whose declaration is refused has no type.
 
 ghost use Rattle.std.specs.Prelude.{◌≡◌, Option, None, is_some, IfOk, OnOk};
+ghost use Rattle.dpl_language.specs.Declarations.{type_of as written_type};
 ghost use Rattle.dpl_language.specs.Tree.{Declare as DeclareTree};
 ghost use Rattle.dpl_nodes.specs.Steps.{step_view};
 ghost use Rattle.dpl_rules.specs.Breaches.{least_from};
 ghost use Rattle.dpl_rules.specs.Declarations.{declaration_breaches, declared_by, sort_of};
+ghost use Rattle.dpl_rules.specs.Doings.{is_apart};
 ghost use Rattle.dpl_rules.specs.Sights.{add};
 ghost use Rattle.dpl_scopes.specs.View.{declared_view, sort_view};
 ghost use Rattle.dpl_syntax.specs.declared.place.Place.{Place as PlaceNode};
@@ -16,6 +18,7 @@ ghost use Rattle.dpl_declarations.specs.Plain.{IsPlain};
 
 use crate::found::Elaborated;
 use crate::names::name;
+use crate::outside::declares_apart;
 use dpl_scopes::{Declared, Origin, Scopes, Sort};
 use dpl_syntax::{Breach, Code};
 use dpl_tree::{Arena, Declare};
@@ -47,6 +50,7 @@ pub fn declaration<'t>(
     first: &mut Option<Breach>,
 ) -> Result<Elaborated<'t>, AllocError>
     ensures declared { IfOk result (λ r. declared_view r.declared ≡ declared_by scopes.now (declare_view written.now)) }
+    ensures apart { IfOk result (λ r. r.is_apart ≡ is_apart scopes.now (written_type (declare_view written.now).typed) (declare_view written.now).initial) }
     ensures told { OnOk result (first.new ≡ least_from first.old (declaration_breaches scopes.now (declare_view written.now))) }
     ensures node { IfOk result (λ r. first.new ≡ None → IsPlain scopes.now (declare_view written.now)
         → stmt_leaves scopes.now (DeclareTree (declare_view written.now)) ≡ step_view r.step) }
@@ -67,6 +71,7 @@ pub fn declaration<'t>(
     let Ok(found) = name(arena, scopes, written, &mut apart) else {
         return Err(AllocError);
     };
+    let is_apart = declares_apart(written, found.value_type);
     let value_type = if apart.is_none() {
         found.value_type
     } else {
@@ -80,5 +85,6 @@ pub fn declaration<'t>(
             value_type,
         },
         step: found.step,
+        is_apart,
     })
 }

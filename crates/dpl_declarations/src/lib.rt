@@ -8,6 +8,7 @@ mod elements;
 pub mod found;
 mod initial;
 mod names;
+mod outside;
 mod over;
 mod placing;
 mod single;

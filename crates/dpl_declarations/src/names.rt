@@ -8,11 +8,10 @@ ghost use Rattle.dpl_language.specs.Tree.{ScalarType, SyncType, DomainType as Do
 ghost use Rattle.dpl_rules.specs.Breaches.{least_from};
 ghost use Rattle.dpl_rules.specs.Types.{is_any_scalar};
 ghost use Rattle.dpl_rules.specs.Verdicts.{breach, owed as owed_of, where_given, wanted as wanted_of};
-ghost use Rattle.dpl_scopes.specs.Types.{of_type};
 ghost use Rattle.dpl_syntax.specs.declared.place.Place.{Place as PlaceNode};
 ghost use Rattle.dpl_syntax.specs.declared.refusal.Code.TheVariants.{WrongType as WrongTypeCode, WrongRank as WrongRankCode};
 ghost use Rattle.dpl_tree.specs.Declarations.{domain_type_view, array_type_view, declare_view};
-ghost use Rattle.dpl_typed.specs.Typed.{types_of, part_view};
+ghost use Rattle.dpl_typed.specs.Typed.{part_view};
 ghost use Rattle.dpl_declarations.specs.Plain.{IsPlainAs};
 ghost use Rattle.dpl_declarations.specs.Told.{TellsAs};
 ghost use Rattle.dpl_declarations.specs.Trees.{IsFoundAs};
@@ -28,20 +27,11 @@ use dpl_nodes::{Placing, Step};
 use dpl_scopes::{Origin, Scopes, ValueType};
 use dpl_syntax::{Breach, Code, Place};
 use dpl_tree::{Arena, ArrayType, Declare, DeclaredType, DomainType, ScalarKind};
+use dpl_typed::Part;
+use dpl_typed::found::type_found;
 use dpl_typed::part::wanted;
-use dpl_typed::{Part, Typed};
 use dpl_types::{Want, note, owed};
 use std::alloc::AllocError;
-
-// The type of what was found, if it has one.
-fn type_found<'t>(found: Option<Typed<'t>>) -> Option<ValueType<'t>>
-    ensures { of_type result ≡ types_of found.entry }
-{
-    match found {
-        None => None,
-        Some(t) => Some(t.value_type()),
-    }
-}
 
 // A number of a text as a rank.
 fn natural(number: i64) -> usize

@@ -1,6 +1,6 @@
 -- What is put of a chain: first as if it stood in a promoted expression, and where that holds a reduction once more by its pairs.
 -- Without one what was put first is what the chain does.
-use Rattle.std.proofs.Common.{◌≡◌, ℕ, nat_lt, Bool, true, false, List, ◌++◌, length, map, take, drop, Result, Ok, Err, OnOk, sym, ap, ◌∙◌}
+use Rattle.std.proofs.Common.{◌≡◌, ℕ, nat_lt, Bool, true, false, List, ◌++◌, length, map, take, drop, sym, ap, ◌∙◌}
 use Rattle.std.proofs.Math.Seq.{take-append_seam}
 use Rattle.std.proofs.lemmas.List.{take-map, length-map}
 use Rattle.dpl_language.specs.Tree.{ExprTree, Links, Chain}
@@ -13,11 +13,6 @@ use Rattle.dpl_deeds.specs.View.{deed_view, Adds}
 use Rattle.dpl_deeds.specs.Pairs.{promoted_from, operands_deeds, chain_deeds, holds_reduction}
 use Rattle.dpl_deeds.proofs.Pairs.{chain_counted, chain_all_inside, expr_unreduced}
 use Rattle.dpl_deeds.proofs.Steps.{added_then, added_behind}
-
--- what follows of what holds where nothing failed
-pub on_ok : {S T : Type 0} {P Q : Type 0} (r : Result S T) → (P → Q) → OnOk r P → OnOk r Q
-on_ok (Ok x) f p = f p
-on_ok (Err e) f p = p
 
 -- the deeds that stood there before others were put behind them
 cut_back : (old new cut : List DeedNode) (ds : List Deed) → Adds ds old new → cut ≡ take (length old) new → map deed_view cut ≡ map deed_view old

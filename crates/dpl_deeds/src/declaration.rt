@@ -1,26 +1,20 @@
 // The deeds of declarations: that an array, a domain or a cell is declared, and what types, maps and initial values do.
 // A map's arguments hold no reduction.
 
-ghost use Rattle.std.specs.Prelude.{◌≡◌, OnOk, IfOk};
-ghost use Rattle.dpl_tree.specs.View.{item_view};
-ghost use Rattle.dpl_tree.specs.Declarations.{optional, start_view, map_view, mapped_view, type_view, typed_view, init_view, initial_view, declare_view};
+ghost use Rattle.std.specs.Prelude.{◌≡◌, OnOk};
+ghost use Rattle.dpl_tree.specs.Declarations.{optional, start_view, map_view, mapped_view, typed_view, init_view, initial_view, declare_view};
 ghost use Rattle.dpl_language.specs.Declarations.{type_of as written_type};
-ghost use Rattle.dpl_rules.specs.Types.{has, is_domain as is_domain_type};
 ghost use Rattle.dpl_rules.specs.Places.{first_of_declaration};
-ghost use Rattle.dpl_rules.specs.Expressions.{item_type};
-ghost use Rattle.dpl_rules.specs.Doings.{is_apart_type as is_apart_type_of, is_apart_init as is_apart_init_of, is_apart as is_apart_of};
 ghost use Rattle.dpl_rules.specs.Doings.{start_deeds as start_deeds_of, map_deeds as map_deeds_of, mapped_deeds as mapped_deeds_of};
 ghost use Rattle.dpl_rules.specs.Doings.{type_deeds as type_deeds_of, init_deeds as init_deeds_of, initial_deeds as initial_deeds_of};
-ghost use Rattle.dpl_rules.specs.Doings.{declaration_deeds as declaration_deeds_of};
 ghost use Rattle.dpl_deeds.specs.View.{Adds};
+ghost use Rattle.dpl_deeds.specs.Parts.{declaration_deeds as declaration_deeds_of};
 
 use crate::deed::{Added, Deed, Holding, held_if};
 use crate::expression::{expr_deeds, item_deeds, items_deeds, more_exprs_deeds};
-use crate::name::is_domain;
 use dpl_scopes::Scopes;
 use dpl_syntax::Place;
-use dpl_tree::{Arena, Declare, DeclaredType, Init, Initial, Item, Map, Mapped, Start, Typed};
-use std::alloc::{AllocError, Global};
+use dpl_tree::{Arena, Declare, DeclaredType, Init, Initial, Map, Mapped, Start, Typed};
 
 // The first token of a declaration.
 fn first_of(declare: &Declare<'_>) -> Place
@@ -29,49 +23,6 @@ fn first_of(declare: &Declare<'_>) -> Place
     match declare.config {
         None => declare.at,
         Some(config) => config,
-    }
-}
-
-// Whether a declared type is that of an array, a domain or a cell.
-fn is_apart_type(declared: &DeclaredType<'_>) -> bool
-    ensures { result ≡ is_apart_type_of (type_view declared.now) }
-{
-    match declared {
-        DeclaredType::Scalar(_, _) => false,
-        DeclaredType::Sync(_, _, _) | DeclaredType::Domain(_) | DeclaredType::Array(_) => true,
-    }
-}
-
-// Whether an item's type, if it has one, is a domain. What it breaks is told elsewhere.
-fn is_domain_item(alloc: Global, scopes: &Scopes<'_>, item: &Item<'_>) -> Result<bool, AllocError>
-    ensures { IfOk result (λ r. r ≡ has is_domain_type (item_type scopes.now (item_view item.now))) }
-{
-    let mut untold = None;
-    let found = dpl_typing::expression::item(alloc, scopes, item, &mut untold)?;
-    Ok(is_domain(found))
-}
-
-// Whether an initial value without a declared type is a domain: mapped, created, or by its type.
-fn is_apart_init(alloc: Global, scopes: &Scopes<'_>, init: &Init<'_>) -> Result<bool, AllocError>
-    ensures { IfOk result (λ r. r ≡ is_apart_init_of scopes.now (init_view init.now)) }
-{
-    match init {
-        Init::Item(item, None) => is_domain_item(alloc, scopes, item),
-        Init::Item(_, Some(_)) => Ok(true),
-        Init::Create(_) => Ok(true),
-    }
-}
-
-// Whether an array, a domain or a cell is declared: its type says so, or where none is written its initial value.
-fn is_apart(alloc: Global, scopes: &Scopes<'_>, declare: &Declare<'_>) -> Result<bool, AllocError>
-    ensures { IfOk result (λ r. r ≡ is_apart_of scopes.now (written_type (optional typed_view declare.now.typed)) (optional initial_view declare.now.initial)) }
-{
-    match &declare.typed {
-        Some(typed) => Ok(is_apart_type(&typed.declared)),
-        None => match &declare.initial {
-            None => Ok(false),
-            Some(initial) => is_apart_init(alloc, scopes, &initial.init),
-        },
     }
 }
 
@@ -182,7 +133,7 @@ fn initial_deeds<'t>(
     }
 }
 
-/// What a declaration does, by what is in sight before it.
+/// What a declaration does, by what is in sight before it, and by whether an array, a domain or a cell is declared.
 ///
 /// # Errors
 /// Out of memory; of the list then nothing is said.
@@ -191,11 +142,11 @@ pub fn declaration_deeds<'t>(
     arena: Arena<'t>,
     scopes: &Scopes<'t>,
     declare: &Declare<'_>,
+    apart: bool,
     deeds: &mut Vec<Deed<'t>>,
 ) -> Added
-    ensures { OnOk result (Adds (declaration_deeds_of scopes.now (declare_view declare.now)) deeds.old.items deeds.new.items) }
+    ensures { OnOk result (Adds (declaration_deeds_of scopes.now apart (declare_view declare.now)) deeds.old.items deeds.new.items) }
 {
-    let apart = is_apart(arena.alloc(), scopes, declare)?;
     held_if(apart, first_of(declare), Holding::Declaration, deeds)?;
     type_deeds(arena, scopes, &declare.typed, deeds)?;
     initial_deeds(arena, scopes, &declare.initial, deeds)

@@ -4,7 +4,6 @@
 ghost use Rattle.std.specs.Prelude.{false, OnOk, option_map};
 ghost use Rattle.dpl_tree.specs.View.{expr_view, chain_view, item_view, items_view, exprs_view, post_view, method_view};
 ghost use Rattle.dpl_tree.specs.View.{stride_view, links_of, posts_of, more_items_of, more_exprs_of};
-ghost use Rattle.dpl_typing.specs.Told.{range_view};
 ghost use Rattle.dpl_language.specs.Phrases.{base_of};
 ghost use Rattle.dpl_rules.specs.Deeds.{array_deeds as array_deeds_of, cell_deeds as cell_deeds_of};
 ghost use Rattle.dpl_rules.specs.Deeds.{items_index as items_index_of, exprs_index as exprs_index_of, name_deeds as name_deeds_of};
@@ -14,6 +13,7 @@ ghost use Rattle.dpl_rules.specs.Deeds.{posts_deeds as posts_deeds_of, post_deed
 ghost use Rattle.dpl_rules.specs.Deeds.{method_deeds as method_deeds_of, items_deeds as items_deeds_of, more_items_deeds as more_items_deeds_of};
 ghost use Rattle.dpl_rules.specs.Deeds.{exprs_deeds as exprs_deeds_of, more_exprs_deeds as more_exprs_deeds_of};
 ghost use Rattle.dpl_scopes.specs.View.{declared_view};
+ghost use Rattle.dpl_elaborator.specs.Forms.{range_tree};
 ghost use Rattle.dpl_deeds.specs.View.{Adds};
 ghost use Rattle.dpl_deeds.specs.Pairs.{operands_deeds};
 
@@ -212,7 +212,7 @@ fn range_deeds<'t>(
     range: &Range<'_>,
     deeds: &mut Vec<Deed<'t>>,
 ) -> Added
-    ensures { OnOk result (Adds (item_deeds_of scopes.now inner (range_view range.now)) deeds.old.items deeds.new.items) }
+    ensures { OnOk result (Adds (item_deeds_of scopes.now inner (range_tree range.now)) deeds.old.items deeds.new.items) }
 {
     expr_deeds(arena, scopes, inner, range.low, deeds)?;
     expr_deeds(arena, scopes, inner, range.high, deeds)?;
@@ -267,7 +267,7 @@ fn paired_deeds<'t>(
 ) -> Added
     ensures { OnOk result (Adds (expr_deeds_of scopes.now false (chain_view chain.now)) deeds.old.items deeds.new.items) }
 {
-    let inside = promoted_links(arena.alloc(), scopes, chain.first, chain.links)?;
+    let inside = promoted_links(arena, scopes, chain.first, chain.links)?;
     expr_deeds(arena, scopes, 0 < inside, chain.first, deeds)?;
     links_deeds(arena, scopes, false, inside, chain.links, deeds)
 }

@@ -47,7 +47,7 @@ use dpl_typed::leaves::{number, truth_word};
 use dpl_typed::name::named;
 use dpl_typed::verdict::mistyped;
 use dpl_typed::{Made, Part, Typed};
-use dpl_typing::place::{first_of, first_of_item, last_of, last_of_post};
+use dpl_types::place::{first_of, first_of_item, last_of, last_of_post};
 use std::alloc::AllocError;
 
 /// An expression, if it has a type. Its breaches are told.
@@ -167,7 +167,8 @@ fn domain<'t>(
     first: &mut Option<Breach>,
 ) -> Made<'t>
     ensures told { IfOk result (λ r. Tells (type_by (ranges_verdict from (item_parts scopes.now (items_view written.now))))
-        (items_breaches scopes.now (items_view written.now) ++ broken_by (ranges_verdict from (item_parts scopes.now (items_view written.now)))) r first.old first.new) }
+        (items_breaches scopes.now (items_view written.now) ++ broken_by (ranges_verdict from (item_parts scopes.now (items_view written.now)))) r
+        first.old first.new) }
     ensures node { IfOk result (λ r. IsNear from → WhereSimpleItems scopes.now (items_view written.now)
         (StandsFor r (λ m. DomainLiteral from (items_leaves scopes.now (items_view written.now)) nowhere))) }
 {
@@ -186,8 +187,10 @@ fn range_item<'t>(
     written: &Range<'_>,
     first: &mut Option<Breach>,
 ) -> Made<'t>
-    ensures told { IfOk result (λ r. Tells (item_type scopes.now (range_tree written.now)) (item_breaches scopes.now (range_tree written.now)) r first.old first.new) }
-    ensures node { IfOk result (λ r. WhereSimpleItem scopes.now (range_tree written.now) (StandsForItem r (λ m. item_leaves scopes.now m (range_tree written.now)))) }
+    ensures told { IfOk result (λ r. Tells (item_type scopes.now (range_tree written.now)) (item_breaches scopes.now (range_tree written.now)) r
+        first.old first.new) }
+    ensures node { IfOk result (λ r. WhereSimpleItem scopes.now (range_tree written.now)
+        (StandsForItem r (λ m. item_leaves scopes.now m (range_tree written.now)))) }
 {
     let Ok(low) = part(arena, scopes, written.low, first) else {
         return Err(AllocError);
@@ -443,7 +446,8 @@ pub fn item_part<'t>(
 ) -> Result<Part<'t>, AllocError>
     ensures told { IfOk result (λ p. TellsPart (part_of (first_of_item_tree (item_view written.now)) (item_type scopes.now (item_view written.now)))
         (item_breaches scopes.now (item_view written.now)) p first.old first.new) }
-    ensures node { IfOk result (λ p. WhereSimpleItem scopes.now (item_view written.now) (IsItem p.found (item_leaves scopes.now Once (item_view written.now)))) }
+    ensures node { IfOk result (λ p. WhereSimpleItem scopes.now (item_view written.now)
+        (IsItem p.found (item_leaves scopes.now Once (item_view written.now)))) }
 {
     let Ok(found) = item(arena, scopes, written, first) else {
         return Err(AllocError);
@@ -487,7 +491,8 @@ pub fn exprs<'t>(
 ) -> Result<Vec<Part<'t>>, AllocError>
     ensures told { IfOk result (λ ps. TellsParts (expr_parts scopes.now (exprs_view exprs.now))
         (exprs_breaches scopes.now (exprs_view exprs.now)) ps.items first.old first.new) }
-    ensures node { IfOk result (λ ps. WhereSimpleExprs scopes.now (exprs_view exprs.now) (AreArguments ps.items (exprs_leaves scopes.now (exprs_view exprs.now)))) }
+    ensures node { IfOk result (λ ps. WhereSimpleExprs scopes.now (exprs_view exprs.now)
+        (AreArguments ps.items (exprs_leaves scopes.now (exprs_view exprs.now)))) }
 {
     let mut parts = Vec::new(arena.alloc());
     parts.push(part(arena, scopes, exprs.first, first)?)?;

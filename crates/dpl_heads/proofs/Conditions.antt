@@ -24,7 +24,7 @@ use Rattle.dpl_typed.specs.Where.{WhereSimple}
 use Rattle.dpl_heads.specs.Plain.{IsPlainExpr}
 use Rattle.dpl_heads.specs.Made.{IsTruth, IsTruthOf}
 use Rattle.dpl_heads.specs.Told.{wanted_told}
-use Rattle.dpl_heads.proofs.Unbroken.{unbroken, owed-holds}
+use Rattle.dpl_types.proofs.Unbroken.{unbroken, owed-holds}
 use Rattle.dpl_heads.proofs.Known.{known-types}
 
 truth-found : (found : Option Typed) (r : Option (Bor BoolExpr)) (e : ExprTree Variable) → has is_bool (types_of found) ≡ true → IsArgument found e → IsTruthOf found r → IsTruth e r

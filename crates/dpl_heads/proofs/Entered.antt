@@ -1,7 +1,6 @@
 -- The scope of a loop's variables: where these are of a turn's type and each is there once, what is in sight stays known.
 -- Closed again, it leaves the scopes around it.
-use Rattle.std.proofs.Common.{◌≡◌, true, false, not, is_some, List, [], ◌∷◌, drop, Option, Some, None, Result, Ok, Err, refl, sym, ap, ◌∙◌, subst}
-use Rattle.std.specs.Prelude.{OnOk}
+use Rattle.std.proofs.Common.{◌≡◌, true, false, not, is_some, List, [], ◌∷◌, drop, Option, Some, None, refl, sym, ap, ◌∙◌, subst}
 use Rattle.dpl_syntax.specs.declared.refusal.Breach.{Breach}
 use Rattle.dpl_syntax.specs.declared.refusal.Code.TheVariants.{NameTwice}
 use Rattle.dpl_language.specs.Tree.{IntKind, BoolKind, Placed, ItemTree, VariablesTree, OneVariable, ManyVariables}
@@ -18,7 +17,7 @@ use Rattle.dpl_typed.specs.Leaves.{kind_if, kind_by}
 use Rattle.dpl_bound.specs.Sights.{is_promoted_by, AreKnownScopes}
 use Rattle.dpl_bound.specs.Bounds.{loop_variable, loop_type}
 use Rattle.dpl_heads.specs.Made.{is_one_turn, is_turn}
-use Rattle.dpl_heads.proofs.Unbroken.{unbroken, owed-holds}
+use Rattle.dpl_types.proofs.Unbroken.{unbroken, owed-holds}
 use Rattle.dpl_heads.proofs.Once.{each_once_typed}
 
 -- ---- the type of a turn's variables has a kind, and is none of promoted expressions
@@ -86,12 +85,3 @@ inside-loop word xs item t ss us typed opened = ap enter (opened ∙ ap (λ (t :
 pub left-again : (t : Option ValueType) (xs : List (Placed Text)) (s : Scope) (ss : Scopes) → drop 1 (add_variables t xs (s ∷ ss)) ≡ ss
 left-again t [] s ss = refl
 left-again t (x ∷ xs) s ss = left-again t xs (loop_variable t (s ∷ ss) x.name ∷ s) ss
-
--- what holds of what a call left
-pub on_both : {A E P Q R : Type 0} (r : Result A E) → (P → Q → R) → OnOk r P → OnOk r Q → OnOk r R
-on_both (Ok a) f p q = f p q
-on_both (Err e) f p q = tt
-
-pub on_ok : {A E P : Type 0} (r : Result A E) → P → OnOk r P
-on_ok (Ok a) p = p
-on_ok (Err e) p = tt

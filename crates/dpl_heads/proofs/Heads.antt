@@ -33,7 +33,7 @@ use Rattle.dpl_heads.specs.declared.head.Iterable.TheVariants as iterable
 use Rattle.dpl_heads.specs.Plain.{HasSeveral, IsPlainHead}
 use Rattle.dpl_heads.specs.Made.{IsIterated, is_one_turn, is_turn, IsOneInt, IsRun}
 use Rattle.dpl_heads.specs.Listed.{names_in}
-use Rattle.dpl_heads.proofs.Unbroken.{unbroken, owed-holds}
+use Rattle.dpl_types.proofs.Unbroken.{unbroken, owed-holds}
 use Rattle.dpl_heads.proofs.Known.{known-types, some-found}
 
 pub length_names : (xs : List NextName) → length (names_in xs) ≡ length xs

@@ -30,7 +30,7 @@ use Rattle.dpl_bound.specs.Sights.{AreKnownScopes}
 use Rattle.dpl_bound.proofs.Sights.{IsKnownName, lookup-known}
 use Rattle.dpl_heads.specs.Listed.{intents_in}
 use Rattle.dpl_heads.specs.Made.{reduced_leaves, kept_at, kept_of, kept_all}
-use Rattle.dpl_heads.proofs.Unbroken.{unbroken}
+use Rattle.dpl_types.proofs.Unbroken.{unbroken}
 use Rattle.dpl_heads.proofs.Known.{kind-typed}
 
 -- ---- one of the intents behind commas

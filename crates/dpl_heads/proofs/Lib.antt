@@ -1,4 +1,3 @@
-pub mod Unbroken
 pub mod Known
 pub mod Conditions
 pub mod Heads

@@ -13,7 +13,6 @@ ghost use Rattle.dpl_tree.specs.Statements.{variables_view};
 ghost use Rattle.dpl_typed.specs.Lowered.{item_leaves};
 ghost use Rattle.dpl_typed.specs.Stands.{StandsForItem};
 ghost use Rattle.dpl_typed.specs.Told.{Tells};
-ghost use Rattle.dpl_typed.specs.Typed.{types_of};
 ghost use Rattle.dpl_typed.specs.Where.{WhereSimpleItem};
 ghost use Rattle.dpl_bound.specs.Bounds.{loop_type};
 ghost use Rattle.dpl_heads.specs.Plain.{IsPlainHead};
@@ -25,9 +24,10 @@ use dpl_nodes::{DomainExpr, RangeExpr};
 use dpl_scopes::{Scopes, ValueType};
 use dpl_syntax::{Breach, Code, Place};
 use dpl_tree::{Arena, Item, ScalarKind, Variables};
+use dpl_typed::found::type_found;
 use dpl_typed::{Made, Typed};
+use dpl_types::place::first_of_item;
 use dpl_types::{note, owed};
-use dpl_typing::place::first_of_item;
 use std::alloc::AllocError;
 
 /// Which loop over indices.
@@ -199,16 +199,6 @@ fn variable_type<'t>(
                 None
             }
         }
-    }
-}
-
-// The type of what was found, if it has one.
-fn type_found<'t>(found: Option<Typed<'t>>) -> Option<ValueType<'t>>
-    ensures { of_type result ≡ types_of found.entry }
-{
-    match found {
-        None => None,
-        Some(t) => Some(t.value_type()),
     }
 }
 

@@ -20,8 +20,7 @@ use dpl_scopes::{Declared, Scopes, Sort};
 use dpl_syntax::{Breach, Code, Place};
 use dpl_tree::{Arena, Intent, Name, NextIntent, Op, With};
 use dpl_types::found::is_cell;
-use dpl_types::part::wanted;
-use dpl_types::{Part, Want, note, owed};
+use dpl_types::{Part, Want, note, owed, wanted};
 use std::alloc::AllocError;
 
 // A reduce variable: known, no constant, no cell, and of the kind that the operator takes.

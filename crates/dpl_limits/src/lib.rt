@@ -5,8 +5,7 @@
 mod count;
 mod sets;
 mod value;
-mod walk;
 
+pub use count::{Count, Counts};
 pub use sets::sets_fit;
 pub use value::{int_in, name_and_value};
-pub use walk::limits;

@@ -48,7 +48,8 @@ use Rattle.dpl_mapped.specs.declared.low.FoundDomain.{FoundDomain}
 use Rattle.dpl_mapped.specs.Told.{standing, bound_word, low_at, low_last_view, dimensions_in, low_told as low_owed, low_verdict, ended_by, ended_told}
 use Rattle.dpl_mapped.specs.Made.{IsIntStart, IsEnded, IsStartAs}
 use Rattle.dpl_mapped.proofs.Typed.{postfixed-typed}
-use Rattle.dpl_mapped.proofs.Unbroken.{unbroken, unfailed, int-met}
+use Rattle.dpl_types.proofs.Unbroken.{unbroken}
+use Rattle.dpl_mapped.proofs.Unbroken.{unfailed, int-met}
 
 -- ---- the word
 pub least_word : (b : Bool) → low_word (bound_word b) ≡ bound_word b

@@ -29,7 +29,7 @@ use Rattle.dpl_nodes.specs.Spots.{IsNear}
 use Rattle.dpl_nodes.specs.Steps.{index_start}
 use Rattle.dpl_nodes.specs.Typed.{index_exprs}
 use Rattle.dpl_spelling.specs.Spelt.{ExprSpelt, ExprsSpelt, MoreExprsSpelt, PartSpelt, ListSpelt}
-use Rattle.dpl_types.specs.Judges.{are_none}
+use Rattle.dpl_types.specs.Owes.{are_none}
 use Rattle.dpl_types.proofs.Breaches.{least_from_append}
 use Rattle.dpl_brackets.specs.Parts.{all_are, are_index, is_tuple}
 use Rattle.dpl_brackets.proofs.Rules.{all-wanted}
@@ -44,7 +44,8 @@ use Rattle.dpl_mapped.specs.Named.{IsKnownRank}
 use Rattle.dpl_mapped.specs.Told.{tuple_told}
 use Rattle.dpl_mapped.specs.Made.{AreInts, commas, start_by, IsIndexOf, IsPlainStart, IsStartAs}
 use Rattle.dpl_mapped.proofs.Typed.{exprs-typed}
-use Rattle.dpl_mapped.proofs.Unbroken.{unbroken, unfailed, rank-few}
+use Rattle.dpl_types.proofs.Unbroken.{unbroken}
+use Rattle.dpl_mapped.proofs.Unbroken.{unfailed, rank-few}
 
 -- ---- what is read, as arguments
 more-nodes : (ns : List NextExprNode) → more_exprs_of ns ≡ more_exprs (map next_expr_view ns)

@@ -1,18 +1,17 @@
 -- Rules that break nothing are met: what a map's box and start are, where nothing was told.
 -- Each lemma is stated of what is found, by its type.
-use Rattle.std.proofs.Common.{◌≡◌, ℕ, ◌<◌, ◌==◌, Bool, true, false, ◌&&◌, if◌then◌else◌, List, [], ◌∷◌, Option, Some, None, refl, sym, subst, ◌∙◌, arith}
+use Rattle.std.proofs.Common.{◌≡◌, ℕ, ◌<◌, ◌==◌, Bool, true, false, if◌then◌else◌, List, [], Option, Some, None, refl, sym, subst, ◌∙◌, arith}
 use Rattle.std.specs.Prelude.{nat_lt, is_some}
 use Rattle.std.proofs.lemmas.Bool.Decides.{nat_tests}
 use Rattle.std.proofs.lemmas.Option.{none-some}
 use Rattle.dpl_syntax.specs.declared.place.Place.{Place}
 use Rattle.dpl_syntax.specs.declared.refusal.Breach.{Breach}
-use Rattle.dpl_syntax.specs.declared.refusal.Code.{Code}
 use Rattle.dpl_syntax.specs.declared.refusal.Code.TheVariants.{WrongType, WrongRank}
 use Rattle.dpl_language.specs.Names.{Text}
 use Rattle.dpl_language.specs.Tree.{ExprTree, ItemTree, StartExpr}
 use Rattle.dpl_rules.specs.Types.{ValueType, has, is_int, is_domain, domain_of}
 use Rattle.dpl_rules.specs.Verdicts.{breach, owed}
-use Rattle.dpl_rules.specs.Breaches.{before, least_from}
+use Rattle.dpl_rules.specs.Breaches.{least_from}
 use Rattle.dpl_rules.specs.Sights.{Scopes}
 use Rattle.dpl_rules.specs.Expressions.{type_of, item_type, expr_breaches, item_breaches}
 use Rattle.dpl_rules.specs.Maps.{owed_rank, box_rank, box_of, int_start}
@@ -21,6 +20,7 @@ use Rattle.dpl_lowered.specs.LoweredExpressions.{Once}
 use Rattle.dpl_nodes.specs.declared.placing.StartExpr.{StartExpr as StartNode}
 use Rattle.dpl_nodes.specs.declared.tree.DomainExpr.{DomainExpr}
 use Rattle.std.specs.Borrow.{Bor}
+use Rattle.dpl_types.proofs.Unbroken.{unbroken, owed-holds, both-hold}
 use Rattle.dpl_typed.specs.declared.typed.Typed.{Typed}
 use Rattle.dpl_typed.specs.Leaves.{IsFound}
 use Rattle.dpl_typed.specs.Lowered.{leaves_of, item_leaves}
@@ -30,24 +30,6 @@ use Rattle.dpl_typed.specs.Typed.{types_of}
 use Rattle.dpl_mapped.specs.Named.{IsKnownRank}
 use Rattle.dpl_mapped.specs.Made.{IsBox, IsBoxAs, IsIntStart, IsStartAs}
 use Rattle.dpl_mapped.proofs.Typed.{expr-typed, item-typed}
-
--- ---- where nothing was told
-some-least : (b : Breach) (bs : List Breach) → least_from (Some b) bs ≡ None → ⊥
-some-least b [] e = let f : Some b ≡ None = e in cc
-some-least b (c ∷ cs) e = some-least (if before c b then c else b) cs e
-
-pub unbroken : (o : Option Breach) (bs : List Breach) → least_from o bs ≡ None → (o ≡ None) × (bs ≡ [])
-unbroken o [] e = (e, refl)
-unbroken None (b ∷ bs) e = absurd (some-least b bs e)
-unbroken (Some a) (b ∷ bs) e = absurd (some-least (if before b a then b else a) bs e)
-
-owed-holds : (b : Bool) (at : Place) (code : Code) → owed b at code ≡ [] → b ≡ true
-owed-holds true at code e = refl
-owed-holds false at code e = absurd cc
-
-both-hold : (a b : Bool) → (a && b) ≡ true → (a ≡ true) × (b ≡ true)
-both-hold true b e = (refl, e)
-both-hold false b e = absurd cc
 
 -- a test that holds doesn't fail
 pub unfailed : (b : Bool) → b ≡ true → b ≡ false → ⊥

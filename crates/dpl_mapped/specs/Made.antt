@@ -18,7 +18,7 @@ use Rattle.dpl_nodes.specs.Spots.{IsNear}
 use Rattle.dpl_nodes.specs.Steps.{start_view, map_view}
 use Rattle.dpl_nodes.specs.Typed.{dotted, domain_view, index_exprs}
 use Rattle.dpl_spelling.specs.Spelt.{StartSpelt}
-use Rattle.dpl_types.specs.Judges.{are_none}
+use Rattle.dpl_types.specs.Owes.{are_none}
 use Rattle.dpl_typed.specs.declared.typed.Typed.{Typed}
 use Rattle.dpl_typed.specs.declared.part.Part.{Part as PartNode}
 use Rattle.dpl_typed.specs.Leaves.{IsFound}

@@ -31,7 +31,7 @@ use dpl_tree::{Arena, Expr, Method, Post, Word};
 use dpl_typed::node::spot;
 use dpl_typed::{Made, Part, Typed};
 use dpl_types::note;
-use dpl_typing::place::{first_of, last_of};
+use dpl_types::place::{first_of, last_of};
 use std::alloc::AllocError;
 
 /// `low`, or `lowBound`, with its place.

@@ -111,7 +111,8 @@ fn behind_truths<'t>(
     right: Operand<'t>,
     first: &mut Option<Breach>,
 ) -> Made<'t>
-    ensures told { IfOk result (λ r. Judges (taking (taken op) at (Promoted BoolKind (over_view over.entry)) (operand_type right.entry)) r first.old first.new) }
+    ensures told { IfOk result (λ r. Judges (taking (taken op) at (Promoted BoolKind (over_view over.entry)) (operand_type right.entry)) r
+        first.old first.new) }
     ensures node { IfOk result (λ r. StandsFor r (λ m. two (promoted_truth m left.now) nowhere op (operand_tree m right.entry))) }
 {
     match right {

@@ -24,7 +24,7 @@ use Rattle.dpl_types.proofs.Breaches.{least_from_append}
 use Rattle.dpl_bound.specs.Run.{stmt_leaves}
 use Rattle.dpl_bound.specs.Sights.{bound_in, AreKnownScopes}
 use Rattle.dpl_prints.specs.Plain.{IsPlainArgument, ArePlainArguments}
-use Rattle.dpl_prints.proofs.Unbroken.{unbroken}
+use Rattle.dpl_types.proofs.Unbroken.{unbroken}
 use Rattle.dpl_prints.specs.Told.{within, argument_told, printed_told, arguments_in}
 use Rattle.dpl_prints.specs.Made.{IsArgumentAs, AreArgumentsAs, listed, AreBehind, AreSoFar}
 

@@ -1,25 +1,24 @@
 -- A printed argument that breaks no rule has a type that is printed.
 -- No simple expression reads a cell, so that it is told, and typed, as any expression is.
-use Rattle.std.proofs.Common.{◌≡◌, Bool, true, false, if◌then◌else◌, List, [], ◌∷◌, Option, Some, None, refl, sym, ap, subst, ◌∙◌}
+use Rattle.std.proofs.Common.{◌≡◌, Bool, true, false, [], Option, Some, None, refl, sym, ap, subst, ◌∙◌}
 use Rattle.std.proofs.lemmas.Option.{none-some}
-use Rattle.dpl_syntax.specs.declared.place.Place.{Place}
 use Rattle.dpl_syntax.specs.declared.refusal.Breach.{Breach}
-use Rattle.dpl_syntax.specs.declared.refusal.Code.{Code}
 use Rattle.dpl_syntax.specs.declared.refusal.Code.TheVariants.{WrongType}
 use Rattle.dpl_language.specs.Names.{Text}
 use Rattle.dpl_language.specs.Phrases.{bare_name}
 use Rattle.dpl_language.specs.Tree.{ExprTree, One, ExprArgument}
 use Rattle.dpl_rules.specs.Assignments.{is_printed}
-use Rattle.dpl_rules.specs.Breaches.{before, least_from}
+use Rattle.dpl_rules.specs.Breaches.{least_from}
 use Rattle.dpl_rules.specs.Sights.{Scopes}
 use Rattle.dpl_rules.specs.Types.{ValueType}
-use Rattle.dpl_rules.specs.Verdicts.{owed, owed_type, wanted}
+use Rattle.dpl_rules.specs.Verdicts.{owed_type, wanted}
 use Rattle.dpl_rules.specs.Expressions.{none_where, kind_read, read_or_type, type_of, expr_breaches}
 use Rattle.dpl_sound.proofs.Known.{IsTyped, AreKnown, type_of-known}
 use Rattle.dpl_lowered.specs.LoweredExpressions.{Once}
 use Rattle.dpl_memory.specs.Memory.{VariableKind}
 use Rattle.dpl_nodes.specs.declared.step.Argument.{Argument}
 use Rattle.dpl_types.specs.declared.want.Want.{Want}
+use Rattle.dpl_types.proofs.Unbroken.{unbroken, owed-holds}
 use Rattle.dpl_types.specs.Wants.{takes}
 use Rattle.dpl_typed.specs.declared.typed.Typed.{Typed}
 use Rattle.dpl_typed.specs.declared.part.Part.{Part as PartNode}
@@ -34,20 +33,6 @@ use Rattle.dpl_assignments.proofs.Sides.{item-unread}
 use Rattle.dpl_prints.specs.Told.{argument_part_in, argument_in}
 use Rattle.dpl_prints.specs.Made.{shown_of, IsArgumentAs}
 use Rattle.dpl_prints.proofs.Showing.{typed-made}
-
--- ---- where nothing was told
-some-least : (b : Breach) (bs : List Breach) → least_from (Some b) bs ≡ None → ⊥
-some-least b [] e = let f : Some b ≡ None = e in cc
-some-least b (c ∷ cs) e = some-least (if before c b then c else b) cs e
-
-pub unbroken : (o : Option Breach) (bs : List Breach) → least_from o bs ≡ None → (o ≡ None) × (bs ≡ [])
-unbroken o [] e = (e, refl)
-unbroken None (b ∷ bs) e = absurd (some-least b bs e)
-unbroken (Some a) (b ∷ bs) e = absurd (some-least (if before b a then b else a) bs e)
-
-owed-holds : (b : Bool) (at : Place) (code : Code) → owed b at code ≡ [] → b ≡ true
-owed-holds true at code e = refl
-owed-holds false at code e = absurd cc
 
 -- ---- names in known scopes have types
 kind-typed : (o : Option ValueType) (k : VariableKind) → kind_by o ≡ Some k → IsTyped o

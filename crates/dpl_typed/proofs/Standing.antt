@@ -1,7 +1,7 @@
 -- What a typed expression stands for, in other words: as another tree that is the same, as an item and as an expression, and once.
--- The brackets round a range with bounds come and go.
+-- The brackets round a range with bounds come and go. And what follows of what a call gave, where it gave something.
 use Rattle.std.proofs.Common.{◌≡◌, Option, Some, None, Result, Ok, Err, refl, sym, ap, ◌∙◌}
-use Rattle.std.specs.Prelude.{IfOk}
+use Rattle.std.specs.Prelude.{IfOk, OnOk}
 use Rattle.dpl_language.specs.Tree.{ExprTree, ItemTree}
 use Rattle.dpl_lowered.specs.Shapes.{as_expr, as_item}
 use Rattle.dpl_lowered.specs.LoweredExpressions.{Times, Once}
@@ -75,3 +75,16 @@ if_ok (Err e) f p = tt
 pub if_both : {A E : Type 0} {P Q R : A → Type 0} (r : Result A E) → ((a : A) → P a → Q a → R a) → IfOk r P → IfOk r Q → IfOk r R
 if_both (Ok a) f p q = f a p q
 if_both (Err e) f p q = tt
+
+-- what follows where a call gave something, from what holds there, from two such, and from nothing
+pub on_ok : {A E P Q : Type 0} (r : Result A E) → (P → Q) → OnOk r P → OnOk r Q
+on_ok (Ok a) f p = f p
+on_ok (Err e) f p = tt
+
+pub on_both : {A E P Q R : Type 0} (r : Result A E) → (P → Q → R) → OnOk r P → OnOk r Q → OnOk r R
+on_both (Ok a) f p q = f p q
+on_both (Err e) f p q = tt
+
+pub on_any : {A E P : Type 0} (r : Result A E) → P → OnOk r P
+on_any (Ok a) p = p
+on_any (Err e) p = tt

@@ -7,7 +7,7 @@ use Rattle.dpl_syntax.proofs.Walks.{drop-at}
 use Rattle.dpl_rules.specs.Types.{ValueType}
 use Rattle.dpl_rules.specs.Verdicts.{wanted, each_wanted}
 use Rattle.dpl_rules.specs.Breaches.{least_from}
-use Rattle.dpl_types.specs.Judges.{are_none, Owes}
+use Rattle.dpl_types.specs.Owes.{are_none, Owes}
 use Rattle.dpl_types.proofs.Breaches.{least_from_append, are_none_append}
 use Rattle.dpl_typed.specs.declared.part.Part.{Part as PartNode}
 use Rattle.dpl_typed.specs.Typed.{part_view}

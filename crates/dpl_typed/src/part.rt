@@ -6,7 +6,7 @@ ghost use Rattle.dpl_rules.specs.Types.{has};
 ghost use Rattle.dpl_rules.specs.Operators.{is_strided_range, any_strided as any_strided_of};
 ghost use Rattle.dpl_rules.specs.Verdicts.{wanted as wanted_of, each_wanted as each_wanted_of, all_known as all_known_of};
 ghost use Rattle.dpl_types.specs.Wants.{takes};
-ghost use Rattle.dpl_types.specs.Judges.{Owes};
+ghost use Rattle.dpl_types.specs.Owes.{Owes};
 ghost use Rattle.dpl_typed.specs.Typed.{types_of, part_view};
 
 use crate::typed::Typed;

@@ -3,7 +3,7 @@
 use Rattle.std.proofs.Common.{◌≡◌, ◌&&◌, List, [], ◌∷◌, ◌++◌, Option, refl}
 use Rattle.dpl_syntax.specs.declared.refusal.Breach.{Breach}
 use Rattle.dpl_rules.specs.Breaches.{lesser, least_from}
-use Rattle.dpl_types.specs.Judges.{are_none}
+use Rattle.dpl_types.specs.Owes.{are_none}
 
 pub least_from_append : (o : Option Breach) (bs cs : List Breach) → least_from o (bs ++ cs) ≡ least_from (least_from o bs) cs
 least_from_append o [] cs = refl

@@ -1,3 +1,2 @@
 pub mod Breaches
-pub mod Judged
-pub mod Steps
+pub mod Unbroken

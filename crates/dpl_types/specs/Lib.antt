@@ -1,4 +1,4 @@
 -- What serves contracts and proofs alone.
 pub mod View
 pub mod Wants
-pub mod Judges
+pub mod Owes

@@ -2,9 +2,10 @@
 // They may be told in any order.
 
 ghost use Rattle.std.specs.Prelude.{◌≡◌};
-ghost use Rattle.dpl_rules.specs.Verdicts.{owed as owed_of};
+ghost use Rattle.dpl_syntax.specs.declared.refusal.Code.TheVariants.{WrongRank as WrongRankCode};
+ghost use Rattle.dpl_rules.specs.Verdicts.{breach as breach_of, owed as owed_of};
 ghost use Rattle.dpl_rules.specs.Breaches.{before, lesser, or_lesser, place_before, rank as rank_of};
-ghost use Rattle.dpl_types.specs.Judges.{Owes};
+ghost use Rattle.dpl_types.specs.Owes.{Owes};
 
 use dpl_syntax::{Breach, Code, Place};
 
@@ -72,6 +73,14 @@ pub fn owed(holds: bool, at: Place, code: Code, first: &mut Option<Breach>) -> b
         note(first, at, code);
     }
     holds
+}
+
+/// Tells that a number of parts isn't taken. Nothing holds then.
+pub fn wrong_rank(at: Place, first: &mut Option<Breach>) -> bool
+    ensures { Owes (breach_of at WrongRankCode) result first.old first.new }
+{
+    note(first, at, Code::WrongRank);
+    false
 }
 
 /// Tells what was told apart from the rest, if it was anything.

@@ -1,17 +1,13 @@
-// What each rule of the check on types says of a form, by the types of its parts: a type, or where it is broken.
-// Each rule stands for its definition in dpl_rules; none takes memory.
+// What every rule of the check has in common: where an expression begins and ends, whether a part of a form has a type that is taken, and
+// the first of all violations, by place and then by code. Each function stands for its definition in dpl_rules; none takes memory.
 #![tactic(auto)]
 
 pub mod breach;
 pub mod found;
-pub mod index;
-pub mod method;
-pub mod operator;
 pub mod part;
-pub mod range;
-pub mod verdict;
+pub mod place;
 pub mod want;
 
-pub use breach::{note, owed, tell};
-pub use part::Part;
+pub use breach::{note, owed, tell, wrong_rank};
+pub use part::{Part, wanted};
 pub use want::Want;

@@ -1,14 +1,10 @@
 // Parts of a form, as the form's rule sees them: where each begins, and its type if it has one.
 // A type that isn't taken is C3 at the part's first token.
 
-ghost use Rattle.std.specs.Prelude.{◌≡◌, is_some, map};
-ghost use Rattle.dpl_rules.specs.Types.{has};
-ghost use Rattle.dpl_rules.specs.Operators.{is_strided_range, any_strided as any_strided_of};
-ghost use Rattle.dpl_rules.specs.Verdicts.{owed_type as owed_type_of, wanted as wanted_of, each_wanted as each_wanted_of, all_known as all_known_of};
-ghost use Rattle.dpl_scopes.specs.Types.{of_type};
+ghost use Rattle.dpl_rules.specs.Verdicts.{wanted as wanted_of};
 ghost use Rattle.dpl_types.specs.View.{part_view};
 ghost use Rattle.dpl_types.specs.Wants.{takes};
-ghost use Rattle.dpl_types.specs.Judges.{Owes};
+ghost use Rattle.dpl_types.specs.Owes.{Owes};
 
 use crate::breach::owed;
 use crate::want::Want;
@@ -30,50 +26,4 @@ pub fn wanted(want: Want<'_>, part: Part<'_>, first: &mut Option<Breach>) -> boo
         None => true,
         Some(t) => owed(want.takes(t), part.at, Code::WrongType, first),
     }
-}
-
-/// Each part has the wanted type, if it has one.
-#[tactic(auto, using(crate::proofs::Breaches::least_from_append, crate::proofs::Breaches::are_none_append))]
-pub fn each_wanted(of: Want<'_>, parts: &[Part<'_>], first: &mut Option<Breach>) -> bool
-    ensures { Owes (each_wanted_of (takes of.entry) (map part_view parts.now)) result first.old first.new }
-{
-    let mut holds = true;
-    for part in parts {
-        holds &= wanted(of, *part, first);
-    }
-    holds
-}
-
-/// Whether all parts have types.
-pub fn all_known(parts: &[Part<'_>]) -> bool
-    ensures { result ≡ all_known_of (map part_view parts.now) }
-{
-    for part in parts {
-        if part.found.is_none() {
-            return false;
-        }
-    }
-    true
-}
-
-// Whether a part is a range that the text strides.
-fn is_strided(part: Part<'_>) -> bool
-    ensures { result ≡ has is_strided_range (of_type part.entry.found) }
-{
-    match part.found {
-        None => false,
-        Some(t) => t.is_range() && !t.is_plain_range(),
-    }
-}
-
-/// Whether one of the parts is a range that the text strides.
-pub fn any_strided(parts: &[Part<'_>]) -> bool
-    ensures { result ≡ any_strided_of (map part_view parts.now) }
-{
-    for part in parts {
-        if is_strided(*part) {
-            return true;
-        }
-    }
-    false
 }

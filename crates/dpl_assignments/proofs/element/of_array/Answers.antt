@@ -2,10 +2,10 @@
 use Rattle.std.proofs.Common.{rules, ◌≡◌, true, map, sym, ◌∙◌}
 use Rattle.dpl_rules.specs.Operators.{index_breaches}
 use Rattle.dpl_rules.specs.Verdicts.{all_known}
-use Rattle.dpl_types.specs.Judges.{are_none}
+use Rattle.dpl_types.specs.Owes.{are_none}
 use Rattle.dpl_typed.specs.Typed.{part_view}
 use Rattle.dpl_brackets.proofs.Rules.{index-met}
-use Rattle.dpl_assignments.proofs.Unbroken.{both-hold}
+use Rattle.dpl_types.proofs.Unbroken.{both-hold}
 use Rattle.dpl_assignments.proofs.element.of_array.Goals as goal
 
 pub at_index-requires : goal.at_index-requires

@@ -5,7 +5,7 @@ use Rattle.dpl_lowered.specs.Shapes.{nowhere}
 use Rattle.dpl_nodes.specs.Typed.{dotted, range_view, int_view, exprs_one}
 use Rattle.dpl_rules.specs.Verdicts.{all_known}
 use Rattle.dpl_rules.specs.Operators.{index_breaches}
-use Rattle.dpl_types.specs.Judges.{are_none}
+use Rattle.dpl_types.specs.Owes.{are_none}
 use Rattle.dpl_typed.specs.Typed.{part_view}
 use Rattle.dpl_typed.specs.Stands.{AreArguments}
 use Rattle.dpl_typed.proofs.Standing.{if_ok, stands-same}

@@ -29,19 +29,22 @@ returns-clause-walks c =
     let counted : c.len-start.result ≡ length before = search rules in
     let read : map deed_view (drop c.len-start.result after) ≡ item_deeds scopes false item =
     ap (λ n. map deed_view (drop n after)) counted ∙ added_behind before after (item_deeds scopes false item) added in
+    let whether = c.in-Ok.made.promoted in
     let promoted : c.promoted_breaches.new.first ≡ least_from c.assignment.new.first (promoted_breaches scopes target item) =
-    (let e : c.promoted_breaches.new.first ≡ least_from c.assignment.new.first (promoted_by scopes target item (map deed_view (drop c.len-start.result after))) = search rules in e)
-    ∙ ap (λ ds. least_from c.assignment.new.first (promoted_by scopes target item ds)) read
+    (let e : c.promoted_breaches.new.first ≡ least_from c.assignment.new.first (promoted_by scopes target whether (map deed_view (drop c.len-start.result after))) = search rules in e)
+    ∙ ap (λ ds. least_from c.assignment.new.first (promoted_by scopes target whether ds)) read
+    ∙ ap (λ b. least_from c.assignment.new.first (promoted_by scopes target b (item_deeds scopes false item))) c.in-Ok.ensures.promoted
     ∙ ap (least_from c.assignment.new.first) (sym (promoted_breaches_by scopes target item)) in record {
       scopes = refl;
       slots = refl;
       deeds = adds_then before after c.target_deeds.new.deeds.items (item_deeds scopes false item) (target_deeds scopes target c.args.written.now.sign.op) added c.in-Ok-target_deeds.ensures;
       told = told_then first c.assignment.new.first c.promoted_breaches.new.first (assignment_breaches (sight_in scopes c.args.around) target sign item) (promoted_breaches scopes target item)
           (c.in-Ok.ensures.told c.args.around.in_task) promoted;
+      counts = refl;
     }
 
 pub returns-clause-makes : goal.returns-clause-makes
 returns-clause-makes c = λ none plain.
     let written = c.args.written.now in
-    let does = promoted_by c.args.walk.now.scopes (target_view written.target) (item_view written.value) (map deed_view c.behind.result.now) in
-    c.in-Ok.ensures.node (untold c.assignment.new.first c.promoted_breaches.new.first does c.in-Ok-promoted_breaches.ensures none) plain
+    let does = promoted_by c.args.walk.now.scopes (target_view written.target) c.in-Ok.made.promoted (map deed_view c.behind.result.now) in
+    c.in-Ok.ensures.node (untold c.assignment.new.first c.promoted_breaches.new.first does c.promoted_breaches.ensures none) plain

@@ -18,6 +18,7 @@ returns-clause-walks c =
       slots = opened.slots;
       deeds = opened.deeds;
       told = told_before walk.first c.intents.new.first c.open_loop.new.walk.first header with c.in-Ok.ensures.told opened.told;
+      counts = opened.counts;
     }
 
 pub returns-clause-reduced : goal.returns-clause-reduced

@@ -8,4 +8,5 @@ returns-clause-walks c around = record {
   slots = refl;
   deeds = c.in-Ok-expr_deeds.ensures;
   told = c.in-Ok.ensures.told (option_map reducing_view around.forall) around.in_task;
+  counts = refl;
 }

@@ -12,23 +12,23 @@ pub returns-clause-first : goal.returns-clause-first
 returns-clause-first c =
     let begun = c.in-Ok.ensures in
     ap (λ (w : Walk). w.first) c.tell_whole.ensures
-    ∙ program_told (stmts_of c.args.program.now.stmts.now) c.in-Ok.walk c.stmts.new.walk begun.0 begun.1 begun.2 begun.3 c.in-Ok-stmts.ensures.walks
+    ∙ program_told (stmts_of c.args.program.now.stmts.now) c.in-Ok.walk c.stmts.new.walk begun.0 begun.1 begun.2 begun.3 begun.4 c.in-Ok-stmts.ensures.walks
 
 pub returns-clause-scopes : goal.returns-clause-scopes
 returns-clause-scopes c =
     let begun = c.in-Ok.ensures in
     ap (λ (w : Walk). w.scopes) c.tell_whole.ensures
-    ∙ program_behind (stmts_of c.args.program.now.stmts.now) c.in-Ok.walk c.stmts.new.walk begun.0 begun.1 begun.2 begun.3 c.in-Ok-stmts.ensures.walks
+    ∙ program_behind (stmts_of c.args.program.now.stmts.now) c.in-Ok.walk c.stmts.new.walk begun.0 begun.1 begun.2 begun.3 begun.4 c.in-Ok-stmts.ensures.walks
 
 pub returns-clause-slots : goal.returns-clause-slots
 returns-clause-slots c =
     let begun = c.in-Ok.ensures in
     ap (λ (w : Walk). w.slots) c.tell_whole.ensures
-    ∙ program_slots (stmts_of c.args.program.now.stmts.now) c.in-Ok.walk c.stmts.new.walk begun.0 begun.1 begun.2 begun.3 c.in-Ok-stmts.ensures.walks
+    ∙ program_slots (stmts_of c.args.program.now.stmts.now) c.in-Ok.walk c.stmts.new.walk begun.0 begun.1 begun.2 begun.3 begun.4 c.in-Ok-stmts.ensures.walks
 
 pub returns-clause-steps : goal.returns-clause-steps
 returns-clause-steps c = λ none plain.
     let ts = stmts_of c.args.program.now.stmts.now in
     let walk = c.stmts.new.walk in
-    let quiet = whole_untold ts (map deed_view walk.deeds.items) walk.first (sym (ap (λ (w : Walk). w.first) c.tell_whole.ensures) ∙ none) in
+    let quiet = whole_untold walk.counts (map deed_view walk.deeds.items) walk.first (sym (ap (λ (w : Walk). w.first) c.tell_whole.ensures) ∙ none) in
     subst (λ ss. MakesStmts ss ts walk.first c.in-Ok-stmts.steps.now) c.in-Ok.ensures.0 c.in-Ok-stmts.ensures.makes quiet plain

@@ -15,10 +15,9 @@ use Rattle.dpl_lowered.specs.LoweredExpressions.{Once}
 use Rattle.dpl_nodes.specs.declared.step.Step.{Block as BlockStep}
 use Rattle.dpl_nodes.specs.Steps.{steps_of}
 use Rattle.dpl_typed.specs.Lowered.{leaves_of}
-use Rattle.dpl_typed.proofs.Standing.{if_ok}
+use Rattle.dpl_typed.proofs.Standing.{if_ok, on_any}
 use Rattle.dpl_checker.specs.Walks.{sight_in, WalksStmt, WalksInner, of_variables}
 use Rattle.dpl_checker.specs.Makes.{MakesStmt, MakesStmts, MakesInner}
-use Rattle.dpl_checker.proofs.Steps.{on_ok}
 use Rattle.dpl_checker.proofs.Walking.{while_walks, if_walks, on_walks, stmts_left, body_left, for_walks, forall_walks, coforall_walks, turns_at, still_begun, still_then, still_step, still_ended}
 use Rattle.dpl_checker.proofs.Made.{untold, untold_before, body_made_at, else_made_at, while-made, if-made, for-made, forall-made, block-made, block_stmt-made, StillMakes, still_made_first, still_made_at, still_made_all}
 use Rattle.dpl_checker.proofs.statement.+statement.Goals as goal
@@ -193,7 +192,7 @@ stmts-returns-clause-walks t c =
     let at = c.loop-next in
     let all = c.args.stmts.now in
     let none : stmts_of (drop at.next-index all) ≡ NoStmts = ap stmts_of (drop-end all at.next-index c.loop-next-test.false) in
-    on_ok c.list.result (still_ended c.args.around at.walk c.args.walk.now (stmts_of (drop at.next-index all)) (stmts_of all) none at.invariant.0)
+    on_any c.list.result (still_ended c.args.around at.walk c.args.walk.now (stmts_of (drop at.next-index all)) (stmts_of all) none at.invariant.0)
 
 pub stmts-returns-clause-makes : goal.stmts-returns-clause-makes
 stmts-returns-clause-makes t c =

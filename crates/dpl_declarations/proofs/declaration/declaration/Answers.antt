@@ -10,9 +10,18 @@ use Rattle.dpl_rules.specs.Sights.{declared_here, origin_in}
 use Rattle.dpl_rules.specs.Breaches.{least_from, or_lesser}
 use Rattle.dpl_rules.specs.Declarations.{written_breaches, config_breaches, declaration_breaches}
 use Rattle.dpl_types.proofs.Breaches.{least_from_append}
+use Rattle.dpl_declarations.specs.Apart.{apart_as}
 use Rattle.dpl_declarations.proofs.Apart.{told_apart}
+use Rattle.dpl_declarations.proofs.FoundTypes.{apart_found}
 use Rattle.dpl_declarations.proofs.Whole.{declared-node, declared-known}
 use Rattle.dpl_declarations.proofs.declaration.declaration.Goals as goal
+
+pub returns-clause-apart : goal.returns-clause-apart
+returns-clause-apart c =
+    let d = declare_view c.args.written.now in
+    c.declares_apart-is_apart.ensures
+    ∙ ap (apart_as (written_type d.typed) d.initial) c.in-Ok.ensures.told.0
+    ∙ apart_found c.args.scopes.now (origin_in c.args.scopes.now d.name.name) (written_type d.typed) d.initial
 
 pub returns-clause-told : goal.returns-clause-told
 returns-clause-told c =

@@ -6,7 +6,8 @@ use Rattle.dpl_tree.proofs.Fields.{chain_view_fields}
 use Rattle.dpl_rules.specs.Deeds.{expr_deeds}
 use Rattle.dpl_deeds.specs.View.{deed_view}
 use Rattle.dpl_deeds.specs.Pairs.{holds_reduction}
-use Rattle.dpl_deeds.proofs.Chains.{on_ok, put_inside, put_unreduced, put_again, put_by_pairs}
+use Rattle.dpl_typed.proofs.Standing.{on_ok}
+use Rattle.dpl_deeds.proofs.Chains.{put_inside, put_unreduced, put_again, put_by_pairs}
 use Rattle.dpl_deeds.proofs.expression.+expression.Goals.{chain_deeds-then-inner-via-then-inner, chain_deeds-then-inner-via-else-inner+then-not-holds_reduction}
 use Rattle.dpl_deeds.proofs.expression.+expression.Goals as goal
 

@@ -1,8 +1,7 @@
 -- The first intent, and then the others.
 use Rattle.std.proofs.Common.{map, ap, ◌∙◌}
 use Rattle.dpl_nodes.specs.Steps.{intent_view}
-use Rattle.dpl_typed.proofs.Standing.{if_ok}
-use Rattle.dpl_heads.proofs.Entered.{on_ok}
+use Rattle.dpl_typed.proofs.Standing.{if_ok, on_any}
 use Rattle.dpl_heads.proofs.Seen.{intents_told}
 use Rattle.dpl_heads.proofs.Kept.{with-kept}
 use Rattle.dpl_heads.proofs.intents.intents.Goals as goal
@@ -11,7 +10,7 @@ pub returns-in-Ok-more_intents-clause-told : goal.returns-in-Ok-more_intents-cla
 returns-in-Ok-more_intents-clause-told c =
     let head = c.in-Ok-intent.ensures in
     let rest = c.in-Ok-more_intents.ensures in
-    on_ok c.list-in-Some.result
+    on_any c.list-in-Some.result
     (intents_told c.args.scopes.now c.args.with.now c.in-Some.with c.in-Ok.seen c.intent.new.seen c.args.first.now c.intent.new.first c.more_intents.new.first c.in-Some.is c.in-Ok.ensures head.seen head.told rest.told)
 
 pub returns-in-Ok-more_intents-clause-node : goal.returns-in-Ok-more_intents-clause-node

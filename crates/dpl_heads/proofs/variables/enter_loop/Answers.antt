@@ -1,7 +1,8 @@
 -- Where each variable is there once, what is in sight stays known.
 use Rattle.dpl_tree.specs.Statements.{variables_view}
 use Rattle.dpl_scopes.specs.Types.{of_type}
-use Rattle.dpl_heads.proofs.Entered.{entered-known, on_both}
+use Rattle.dpl_typed.proofs.Standing.{on_both}
+use Rattle.dpl_heads.proofs.Entered.{entered-known}
 use Rattle.dpl_heads.proofs.variables.enter_loop.Goals as goal
 
 pub returns-clause-known : goal.returns-clause-known

@@ -7,7 +7,7 @@ use Rattle.dpl_nodes.specs.Steps.{start_view as node_view}
 use Rattle.dpl_mapped.specs.Starts.{start_leaves}
 use Rattle.dpl_mapped.specs.Named.{map_leaves, IsPlainMap}
 use Rattle.dpl_mapped.specs.Made.{IsStartAs}
-use Rattle.dpl_mapped.proofs.Unbroken.{unbroken}
+use Rattle.dpl_types.proofs.Unbroken.{unbroken}
 use Rattle.dpl_mapped.proofs.map.map.Goals as goal
 
 pub returns-in_default-from-clause-node : goal.returns-in_default-from-clause-node

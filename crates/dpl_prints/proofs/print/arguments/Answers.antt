@@ -6,7 +6,7 @@ use Rattle.dpl_prints.specs.Plain.{ArePlainArguments}
 use Rattle.dpl_prints.specs.Told.{printed_told, arguments_in}
 use Rattle.dpl_prints.specs.Made.{AreArgumentsAs}
 use Rattle.dpl_prints.proofs.Printing.{arguments_next, arguments-made}
-use Rattle.dpl_prints.proofs.Unbroken.{unbroken}
+use Rattle.dpl_types.proofs.Unbroken.{unbroken}
 use Rattle.dpl_prints.proofs.print.arguments.Goals as goal
 
 pub returns-clause-node : goal.returns-clause-node

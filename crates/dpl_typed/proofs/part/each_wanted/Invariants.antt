@@ -3,7 +3,7 @@ use Rattle.dpl_rules.specs.Verdicts.{each_wanted as each_wanted_of}
 use Rattle.dpl_rules.specs.Breaches.{least_from}
 use Rattle.dpl_typed.specs.Typed.{part_view}
 use Rattle.dpl_types.specs.Wants.{takes}
-use Rattle.dpl_types.specs.Judges.{are_none}
+use Rattle.dpl_types.specs.Owes.{are_none}
 use Rattle.dpl_typed.proofs.part.each_wanted.Given as goal
 
 -- what is left to tell from here is what was to tell at first

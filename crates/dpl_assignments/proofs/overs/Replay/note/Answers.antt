@@ -4,7 +4,8 @@ use Rattle.std.specs.Prelude.{insert}
 use Rattle.dpl_scopes.specs.Types.{of_type}
 use Rattle.dpl_scopes.specs.View.{declared_view}
 use Rattle.dpl_typed.specs.Leaves.{kind_by, leaf_by}
-use Rattle.dpl_assignments.proofs.FoundArrays.{found-array, found-other, on_both}
+use Rattle.dpl_typed.proofs.Standing.{on_both}
+use Rattle.dpl_assignments.proofs.FoundArrays.{found-array, found-other}
 use Rattle.dpl_assignments.proofs.overs.Replay.note.Goals as goal
 
 pub returns-then-is_over-clause-found : goal.returns-then-is_over-clause-found

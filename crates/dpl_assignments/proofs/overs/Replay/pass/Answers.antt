@@ -2,7 +2,8 @@
 use Rattle.std.proofs.Common.{sym, ap, subst}
 use Rattle.std.specs.Prelude.{OnOk}
 use Rattle.dpl_assignments.specs.Overs.{IsFoundBy, passed}
-use Rattle.dpl_assignments.proofs.FoundArrays.{found-entered, on_both}
+use Rattle.dpl_typed.proofs.Standing.{on_both}
+use Rattle.dpl_assignments.proofs.FoundArrays.{found-entered}
 use Rattle.dpl_assignments.proofs.overs.Replay.pass.Goals as goal
 
 pub returns-in-Opens-clause-found : goal.returns-in-Opens-clause-found

@@ -1,7 +1,7 @@
 use Rattle.std.proofs.Common.{◌≡◌, drop}
 use Rattle.dpl_tree.specs.View.{links_of}
 use Rattle.dpl_rules.specs.Places.{last_of_links as last_of_links_tree}
-use Rattle.dpl_typing.proofs.place.+last.Given as goal
+use Rattle.dpl_types.proofs.place.+last.Given as goal
 
 -- what is left ends where all end
 abbrev pub invariant-last_of_links-loop-link : goal.invariant-last_of_links-loop-link

@@ -1,2 +1,0 @@
--- What serves contracts and proofs alone.
-pub mod Told
