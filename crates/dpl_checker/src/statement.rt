@@ -8,6 +8,7 @@ ghost use Rattle.dpl_checker.specs.Trees.{if_tree, while_tree, for_tree, forall_
 ghost use Rattle.dpl_checker.specs.Walks.{WalksStmt, WalksStmts, WalksInner, WalksBody, WalksElse};
 ghost use Rattle.dpl_checker.specs.Makes.{MakesStmt, MakesStmts, MakesInner, MakesBody, MakesElse};
 
+use crate::changed::changed;
 use crate::form::{assigned, called, declare, open_loop, open_shared, printed, sent, tested};
 use crate::walk::{Around, Listed, Stepped, Walk};
 use dpl_assignments::around::Reducing;
@@ -199,7 +200,7 @@ fn for_turns<'t>(walk: &mut Walk<'t>, around: Around<'t>, turns: &For<'t>) -> St
     Ok(for_step(at, opened.names, opened.over, body))
 }
 
-// `forall`: the rules on its body speak of what that does.
+// `forall`: the rules on its body, and what its turns change, go by what that does.
 #[cycle(statement)]
 fn forall_turns<'t>(walk: &mut Walk<'t>, around: Around<'t>, turns: &Forall<'t>) -> Stepped<'t>
     ensures walks { OnOk result (WalksStmt around.entry (forall_tree turns.now) walk.old walk.new) }
@@ -248,7 +249,10 @@ fn forall_turns<'t>(walk: &mut Walk<'t>, around: Around<'t>, turns: &Forall<'t>)
     ) else {
         return Err(AllocError);
     };
-    Ok(forall_step(at, opened.names, opened.over, reduced, body))
+    let Ok(changed) = changed(walk, &seen, start, opened.names, reduced) else {
+        return Err(AllocError);
+    };
+    Ok(forall_step(at, opened.names, opened.over, changed, body))
 }
 
 // `coforall`: the rules on its body speak of what its intents and that do. It isn't run.

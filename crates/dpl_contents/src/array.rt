@@ -8,6 +8,7 @@ ghost use Rattle.dpl_memory.specs.Memory.{whole_held, held_at, held_with, held_o
 ghost use Rattle.dpl_contents.specs.Arrays.{words_of};
 
 use crate::DomainWord;
+use crate::dealt::cut;
 use dpl_array::{ArrayFault, DArray, Row, Walk};
 use dpl_domain::Index;
 use dpl_map::Map;
@@ -34,7 +35,7 @@ impl Model for ArrayWords {
 }
 
 impl ArrayWords {
-    /// The array over a domain with one word everywhere.
+    /// The array over a domain with one word everywhere, dealt out by a map.
     ///
     /// # Errors
     /// More than 2^24 elements; out of memory for them.
@@ -47,7 +48,8 @@ impl ArrayWords {
         ensures array { IfOk result (λ a. a ≡ whole_held domain (map (λ t. word) (indices_in domain))) }
         ensures size { (result ≡ Err ArrayFault.Size) ↔ (too_large domain ≡ true) }
     {
-        let array = DArray::new(alloc, domain.domain(), owners, word)?;
+        let map = cut(&owners, domain);
+        let array = DArray::new(alloc, domain.domain(), map, word)?;
         Ok(ArrayWords { domain, array })
     }
 

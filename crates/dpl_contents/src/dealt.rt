@@ -1,14 +1,28 @@
-// Arrays that are dealt anew: the same elements, cut by another map.
+// By which map an array is cut, and arrays that are dealt anew: the same elements, cut by another map.
 // What stands side by side in both arrays is taken over at once, and else element by element.
 
 ghost use Rattle.std.specs.Prelude.{◌≡◌, ◌≤◌, ◌<◌, length, IfOk};
 ghost use Rattle.dpl_sets.specs.Indices.{indices};
 ghost use Rattle.dpl_contents.specs.Dealt.{HasTaken};
 
-use crate::ArrayWords;
+use crate::{ArrayWords, DomainWord};
 use dpl_array::{DArray, Row};
 use dpl_map::Map;
 use std::alloc::{AllocError, Global};
+
+/// So many elements make it worth while to cut an array, and so many turns to start workers: to start and to join workers takes as long as
+/// fewer turns do, and these go along one piece sooner than from piece to piece.
+pub const WORTH: u64 = 30_000;
+
+// The map by which an array over a domain is cut that a map deals out: one of few elements is a single piece.
+// No clause speaks of it: however it is cut, the array is the same.
+pub(crate) fn cut(map: &Map, domain: DomainWord) -> Map {
+    if domain.size() < WORTH {
+        Map::whole()
+    } else {
+        *map
+    }
+}
 
 // Takes over what another array has from a place of the domain on: what stands side by side in both, or else the element there alone. It
 // answers the next place.
@@ -59,14 +73,20 @@ pub(crate) fn dealt(alloc: Global, array: DArray<i64>, map: &Map) -> Result<DArr
 }
 
 impl ArrayWords {
-    /// The same array, cut by a map. Where it was cut by another one, its elements are copied.
+    /// Whether the array is cut by a map.
+    pub fn is_cut_by(&self, map: &Map) -> bool {
+        self.array.map().is(map)
+    }
+
+    /// The same array, cut as one that a map deals out: one of few elements is a single piece. Where it was cut otherwise, its elements are
+    /// copied.
     ///
     /// # Errors
     /// Out of memory.
     pub fn dealt(self, alloc: Global, map: &Map) -> Result<ArrayWords, AllocError>
         ensures { IfOk result (λ a. a ≡ self) }
     {
-        match dealt(alloc, self.array, map) {
+        match dealt(alloc, self.array, &cut(map, self.domain)) {
             Ok(array) => Ok(ArrayWords {
                 domain: self.domain,
                 array,

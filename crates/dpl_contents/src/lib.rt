@@ -13,6 +13,7 @@ mod print;
 mod range;
 
 pub use array::ArrayWords;
+pub use dealt::WORTH;
 pub use domain::DomainWord;
 pub use piece::PieceWords;
 pub use pieces::PiecesWords;

@@ -10,7 +10,7 @@ ghost use Rattle.dpl_nodes.specs.Steps.{listed, intent_view, names_view, steps_o
 ghost use Rattle.dpl_heads.specs.Made.{IsTruth, over_item, FitsNames};
 
 use crate::head::Iterable;
-use dpl_nodes::{BoolExpr, Else, Intent, Names, Spot, Step};
+use dpl_nodes::{BoolExpr, Changed, Else, Names, Spot, Step};
 
 /// An `if`.
 pub fn if_step<'t>(
@@ -79,17 +79,17 @@ pub fn for_step<'t>(
     }
 }
 
-/// A forall, with its reduce variables.
+/// A forall, with what its turns change.
 pub fn forall_step<'t>(
     at: &'t Spot,
     names: Names<'t>,
     over: Iterable<'t>,
-    intents: &'t [Intent],
+    changed: &'t Changed<'t>,
     body: &'t [Step<'t>],
 ) -> Step<'t>
     ensures { FitsNames over.entry names.entry
-        → step_view result ≡ ForallTree at.now (names_view names.entry) nowhere (over_item over.entry) (with_intents (map intent_view intents.now))
-        (listed (steps_of body.now)) }
+        → step_view result ≡ ForallTree at.now (names_view names.entry) nowhere (over_item over.entry)
+        (with_intents (map intent_view changed.now.reduced.now)) (listed (steps_of body.now)) }
 {
     match over {
         Iterable::Range(range) => match names {
@@ -97,7 +97,7 @@ pub fn forall_step<'t>(
                 at,
                 slot,
                 over: range,
-                intents,
+                changed,
                 body,
             },
             Names::Tuple(_) | Names::Each(_, _) => Step::Nothing,
@@ -106,7 +106,7 @@ pub fn forall_step<'t>(
             at,
             names,
             over: domain,
-            intents,
+            changed,
             body,
         },
         Iterable::Nothing => Step::Nothing,

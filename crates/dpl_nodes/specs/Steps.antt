@@ -286,13 +286,13 @@ abbrev mutual
   step_view (While' at condition p shape row) = While at.now (truth_view condition.now) (listed (steps_view row))
   step_view (For' at slot over p shape row) =
       For at.now (variable_in slot) nowhere (range_item over.now) (listed (steps_view row))
-  step_view (Forall' at slot over intents p shape row) =
-      Forall at.now (variable_in slot) nowhere (range_item over.now) (with_intents (map intent_view intents.now))
+  step_view (Forall' at slot over changed p shape row) =
+      Forall at.now (variable_in slot) nowhere (range_item over.now) (with_intents (map intent_view changed.now.reduced.now))
       (listed (steps_view row))
   step_view (ForEach' at names over p shape row) =
       For at.now (names_view names) nowhere (One (domain_view over.now)) (listed (steps_view row))
-  step_view (ForallEach' at names over intents p shape row) =
-      Forall at.now (names_view names) nowhere (One (domain_view over.now)) (with_intents (map intent_view intents.now))
+  step_view (ForallEach' at names over changed p shape row) =
+      Forall at.now (names_view names) nowhere (One (domain_view over.now)) (with_intents (map intent_view changed.now.reduced.now))
       (listed (steps_view row))
 
   pub else_view : ElseNode → Else Variable

@@ -15,8 +15,8 @@ pub use fold::{Fold, IntFold, TruthFold};
 pub use placing::{MapExpr, Placing, StartExpr};
 pub use spot::Spot;
 pub use step::{
-    Argument, ArrayDeclaration, ArrayName, Beginning, DeclaredOver, DomainName, Else, Initial,
-    IntDeed, Intent, Names, Rank, Step, TruthDeed, TruthTarget,
+    Argument, ArrayDeclaration, ArrayName, Beginning, Changed, DeclaredOver, DomainName, Else,
+    Initial, IntDeed, Intent, Names, Rank, Step, TruthDeed, TruthTarget,
 };
 pub use stop::NoNode;
 pub use tree::{

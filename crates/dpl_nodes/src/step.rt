@@ -89,6 +89,17 @@ pub struct Intent {
     pub op: Op,
 }
 
+/// What the turns of a forall change, found once for all its runs: its reduce variables; the arrays declared outside of it of which its body
+/// writes elements, each once, in the order of the text; and the numbers and the tuples in which its variables stand, the last of several
+/// first. Only of the reduce variables is it known: who makes turns apart tests the others.
+#[derive(Clone, Copy)]
+pub struct Changed<'t> {
+    pub reduced: &'t [Intent],
+    pub written: &'t [usize],
+    pub numbers: &'t [usize],
+    pub tuples: &'t [usize],
+}
+
 /// What an int's statement does. Ints share one variant of `Step`: of each type that a statement points at, the check counts
 /// all that it reaches.
 #[derive(Clone, Copy)]
@@ -190,12 +201,12 @@ pub enum Step<'t> {
         over: &'t RangeExpr<'t>,
         body: &'t [Step<'t>],
     },
-    /// The same, with its reduce variables.
+    /// The same, with what its turns change.
     Forall {
         at: &'t Spot,
         slot: usize,
         over: &'t RangeExpr<'t>,
-        intents: &'t [Intent],
+        changed: &'t Changed<'t>,
         body: &'t [Step<'t>],
     },
     /// A loop over a domain.
@@ -205,12 +216,12 @@ pub enum Step<'t> {
         over: &'t DomainExpr<'t>,
         body: &'t [Step<'t>],
     },
-    /// The same, with its reduce variables.
+    /// The same, with what its turns change.
     ForallEach {
         at: &'t Spot,
         names: Names<'t>,
         over: &'t DomainExpr<'t>,
-        intents: &'t [Intent],
+        changed: &'t Changed<'t>,
         body: &'t [Step<'t>],
     },
 }

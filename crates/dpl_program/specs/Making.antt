@@ -23,7 +23,7 @@ use Rattle.dpl_program.specs.declared.forall.Forall.{Forall}
 -- what a forall does; and which of its entries a gate may refuse
 abbrev pub forall_run : Limits → Forall → Run Memory
 forall_run limits l =
-    intended_turns (map intent_view l.intents.now) (index_turn limits l.names (steps_in InTurn l.body.now)) (indices_in l.indices)
+    intended_turns (map intent_view l.changed.now.reduced.now) (index_turn limits l.names (steps_in InTurn l.body.now)) (indices_in l.indices)
 
 abbrev pub MayRefuseTurns : (ℕ → ℕ → Type 0) → Framed → Forall → Type 0
 MayRefuseTurns may f l = MayRefuse may (dealt_by f l.origin (written_among (steps_in InTurn l.body.now))) l.indices

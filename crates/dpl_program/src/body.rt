@@ -12,7 +12,7 @@ use dpl_frame::{Alarm, Arrays, DomainWord, Frame, Truth, Turn};
 use dpl_loop::{Apart, Gate, Row, RunStop, Strip, Turns, forall_here};
 use dpl_map::Map;
 use dpl_nodes::{
-    Argument, DomainExpr, IntFold, Intent, Names, PromotedInt, PromotedTruth, RangeExpr, Spot,
+    Argument, Changed, DomainExpr, IntFold, Names, PromotedInt, PromotedTruth, RangeExpr, Spot,
     Step, TruthFold,
 };
 use dpl_steps::{Context, Crew, Team, WholeTurns, bind, make_row, promoted_strip, run};
@@ -108,7 +108,7 @@ impl<A: Arrays> Context for TurnContext<A> {
         _at: &Spot,
         _slot: usize,
         _over: &RangeExpr<'t>,
-        _intents: &[Intent],
+        _changed: &Changed<'t>,
         _body: &[Step<'t>],
         _frame: &mut Frame<A>,
     ) -> Result<(), RunStop> {
@@ -120,7 +120,7 @@ impl<A: Arrays> Context for TurnContext<A> {
         _at: &Spot,
         _names: &Names<'t>,
         _over: &DomainExpr<'t>,
-        _intents: &[Intent],
+        _changed: &Changed<'t>,
         _body: &[Step<'t>],
         _frame: &mut Frame<A>,
     ) -> Result<(), RunStop> {
@@ -129,16 +129,13 @@ impl<A: Arrays> Context for TurnContext<A> {
 }
 
 /// The turns of a forall: its variables hold the index, and its statements run. Beside these, for who makes the turns apart, the rank of its
-/// indices, its reduce variables, the arrays of which its statements write elements, and the numbers and tuples in which its variables stand.
+/// indices and what its turns change.
 #[derive(Drop)]
 pub(crate) struct Body<'b, 't> {
     pub(crate) names: Names<'t>,
     pub(crate) steps: &'b [Step<'t>],
     pub(crate) rank: u32,
-    pub(crate) reduced: &'b [Intent],
-    pub(crate) written: &'b [usize],
-    pub(crate) numbers: &'b [usize],
-    pub(crate) tuples: &'b [usize],
+    pub(crate) changed: &'b Changed<'t>,
 }
 
 impl<'b, 't> Turns for Body<'b, 't> {
@@ -161,25 +158,26 @@ impl<'b, 't> Turns for Body<'b, 't> {
     }
 
     fn apart(&self) -> Option<Apart<'_>> {
-        if !are_own(&self.names, self.numbers, self.tuples) {
+        let changed = self.changed;
+        if !are_own(&self.names, changed.numbers, changed.tuples) {
             return None;
         }
         if !are_independent(
             self.rank,
             &self.names,
-            self.written,
-            self.reduced,
+            changed.written,
+            changed.reduced,
             self.steps,
         ) {
             return None;
         }
         Some(Apart {
             rank: self.rank,
-            written: self.written,
-            reduced: self.reduced,
-            numbers: self.numbers,
+            written: changed.written,
+            reduced: changed.reduced,
+            numbers: changed.numbers,
             ranges: &[],
-            tuples: self.tuples,
+            tuples: changed.tuples,
         })
     }
 }

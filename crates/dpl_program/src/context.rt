@@ -27,7 +27,7 @@ use dpl_frame::{Alarm, Arrays, DomainWord, Frame, RangeWord, Slots, Truth, Turn}
 use dpl_loop::{Gate, Row, RunStop, Strip, forall_line};
 use dpl_map::Map;
 use dpl_nodes::{
-    Argument, DomainExpr, IntFold, Intent, Names, PromotedInt, PromotedTruth, RangeExpr, Spot,
+    Argument, Changed, DomainExpr, IntFold, Names, PromotedInt, PromotedTruth, RangeExpr, Spot,
     Step, TruthFold,
 };
 use dpl_print::write;
@@ -137,12 +137,11 @@ where
     }
 }
 
-// The turns of a forall over a range that has more members than a domain, with its reduce variables. The caller makes them: so they tell
-// nothing of how they may be made apart.
+// The turns of a forall over a range that has more members than a domain. The caller makes them.
 fn turns_of_line<'t, A: Arrays, G: Gate>(
     slot: usize,
     indices: &RangeWord,
-    intents: &[Intent],
+    changed: &Changed<'t>,
     body: &[Step<'t>],
     frame: &mut Frame<A>,
     gate: &G,
@@ -150,7 +149,7 @@ fn turns_of_line<'t, A: Arrays, G: Gate>(
     ensures ends { (done : Deeds) → RunsTo
         (MayRefuse (G.may_refuse gate.now) (dealt_by frame.old None (written_among (steps_in InTurn body.now))) (range_word indices.now ∷ []))
         result frame.new.memory done
-        (intended_turns (map intent_view intents.now)
+        (intended_turns (map intent_view changed.now.reduced.now)
         (index_turn frame.old.limits (IntName slot) (steps_in InTurn body.now)) (indices_in (range_word indices.now ∷ [])) frame.old.memory done) }
     ensures limits { frame.new.limits ≡ frame.old.limits }
 {
@@ -159,12 +158,9 @@ fn turns_of_line<'t, A: Arrays, G: Gate>(
         names: Names::Int(slot),
         steps: body,
         rank: 1,
-        reduced: intents,
-        written: &[],
-        numbers: &[],
-        tuples: &[],
+        changed,
     };
-    frame.intend(intents)?;
+    frame.intend(changed.reduced)?;
     forall_line(&turns, indices, &map, frame, gate)?;
     frame.intend_none();
     Ok(())
@@ -200,19 +196,19 @@ where
         at: &Spot,
         slot: usize,
         over: &RangeExpr<'t>,
-        intents: &[Intent],
+        changed: &Changed<'t>,
         body: &[Step<'t>],
         frame: &mut Frame,
     ) -> Result<(), RunStop> {
         let range = range_indices(at, over, frame, self)?;
         let Some(indices) = DomainWord::new(&[range]) else {
-            return turns_of_line(slot, &range, intents, body, frame, self);
+            return turns_of_line(slot, &range, changed, body, frame, self);
         };
         let made = Forall {
             names: Names::Int(slot),
             origin: None,
             indices,
-            intents,
+            changed,
             body,
         };
         (self.make)(&made, frame)
@@ -224,7 +220,7 @@ where
         at: &Spot,
         names: &Names<'t>,
         over: &DomainExpr<'t>,
-        intents: &[Intent],
+        changed: &Changed<'t>,
         body: &[Step<'t>],
         frame: &mut Frame,
     ) -> Result<(), RunStop> {
@@ -233,7 +229,7 @@ where
             names: *names,
             origin: over.origin(),
             indices,
-            intents,
+            changed,
             body,
         };
         (self.make)(&made, frame)

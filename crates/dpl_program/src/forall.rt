@@ -12,24 +12,23 @@ ghost use Rattle.dpl_steps.specs.Contexts.{index_turn};
 ghost use Rattle.dpl_program.specs.Making.{forall_run, MayRefuseTurns};
 
 use crate::body::Body;
-use crate::changed::Changed;
 use crate::dealt::dealt;
 use dpl_frame::{DomainWord, Frame};
 use dpl_loop::{Gate, RunStop};
 use dpl_map::Map;
-use dpl_nodes::{Intent, Names, Step};
+use dpl_nodes::{Changed, Names, Step};
 use dpl_workers::forall;
 use std::sync::Wait;
 use std::thread::Threads;
 
-/// A forall over a domain: its variables, the slot of the name from which the domain is derived, if from one, the domain, its reduce variables
+/// A forall over a domain: its variables, the slot of the name from which the domain is derived, if from one, the domain, what its turns change,
 /// and its body.
 #[derive(Drop)]
 pub(crate) struct Forall<'f, 't> {
     pub(crate) names: Names<'t>,
     pub(crate) origin: Option<usize>,
     pub(crate) indices: DomainWord,
-    pub(crate) intents: &'f [Intent],
+    pub(crate) changed: &'f Changed<'t>,
     pub(crate) body: &'f [Step<'t>],
 }
 
@@ -54,7 +53,7 @@ fn turns_of<R: Threads + Wait + Sync, G: Gate + Sync>(
 /// Makes its turns, by workers where they serve, dealt out by the map that its text tells.
 ///
 /// # Errors
-/// As for `forall` of dpl_loop; and out of memory for the list of what its turns change.
+/// As for `forall` of dpl_loop.
 pub(crate) fn make_forall<R: Threads + Wait + Sync, G: Gate + Sync>(
     rt: &R,
     made: &Forall<'_, '_>,
@@ -66,19 +65,13 @@ pub(crate) fn make_forall<R: Threads + Wait + Sync, G: Gate + Sync>(
     ensures limits { frame.new.limits ≡ frame.old.limits }
 {
     let map = dealt(made.body, made.origin, frame);
-    let Ok(changed) = Changed::of(&made.names, made.body, frame.alloc()) else {
-        return Err(RunStop::Memory);
-    };
     let turns = Body {
         names: made.names,
         steps: made.body,
         rank: made.indices.rank(),
-        reduced: made.intents,
-        written: changed.written.as_slice(),
-        numbers: changed.numbers.as_slice(),
-        tuples: changed.tuples.as_slice(),
+        changed: made.changed,
     };
-    frame.intend(made.intents)?;
+    frame.intend(made.changed.reduced)?;
     turns_of(rt, &turns, made.indices, &map, frame, gate)?;
     frame.intend_none();
     Ok(())

@@ -2,13 +2,12 @@
 // What a turn may do stands in a context of its own, so that a turn prints nothing and makes no turns.
 // A forall runs through three crates. The walk of dpl_steps meets it, and hands it to its `Context`. That of a program (context.rt) evaluates
 // what the forall runs over, and has it made by a closure that knows the runtime (forall.rt): this looks up by which map the turns are dealt
-// out (dealt.rt), lists what they change (written.rt, changed.rt), and calls `forall` of dpl_loop with the body as `Turns`. The body is
-// walked by dpl_steps again, in the context of a turn (body.rt). So no function comes back to itself through a trait, and dpl_loop knows
+// out (dealt.rt, written.rt), and calls `forall` of dpl_workers with the body as `Turns`, which knows from the step what they change. The body is
+// walked by dpl_steps again, in the context of a turn (body.rt). So no function comes back to itself through a trait, and loops know
 // nothing of statements. Whole arrays and reductions are made by such closures too.
 #![tactic(auto)]
 
 mod body;
-mod changed;
 mod context;
 mod dealt;
 mod forall;

@@ -35,13 +35,13 @@ mutual
       ∙ ap (If nowhere (truth_view condition.now) (listed (steps_view row))) (else_in-view w otherwise may.1)
   step_in-view w (While' at condition p shape row) may = ap (λ ts. While at.now (truth_view condition.now) (listed ts)) (row_in-view w row may)
   step_in-view w (For' at slot over p shape row) may = ap (λ ts. For at.now (variable_in slot) nowhere (range_item over.now) (listed ts)) (row_in-view w row may)
-  step_in-view w (Forall' at slot over intents p shape row) may =
-      outside-itself w (forall_of at.now (variable_in slot) (range_item over.now) intents.now (row_in InTurn row)) may.0
-      ∙ ap (forall_of at.now (variable_in slot) (range_item over.now) intents.now) (row_in-view InTurn row may.1)
+  step_in-view w (Forall' at slot over changed p shape row) may =
+      outside-itself w (forall_of at.now (variable_in slot) (range_item over.now) changed.now.reduced.now (row_in InTurn row)) may.0
+      ∙ ap (forall_of at.now (variable_in slot) (range_item over.now) changed.now.reduced.now) (row_in-view InTurn row may.1)
   step_in-view w (ForEach' at names over p shape row) may = ap (λ ts. For at.now (names_view names) nowhere (One (domain_view over.now)) (listed ts)) (row_in-view w row may)
-  step_in-view w (ForallEach' at names over intents p shape row) may =
-      outside-itself w (forall_of at.now (names_view names) (One (domain_view over.now)) intents.now (row_in InTurn row)) may.0
-      ∙ ap (forall_of at.now (names_view names) (One (domain_view over.now)) intents.now) (row_in-view InTurn row may.1)
+  step_in-view w (ForallEach' at names over changed p shape row) may =
+      outside-itself w (forall_of at.now (names_view names) (One (domain_view over.now)) changed.now.reduced.now (row_in InTurn row)) may.0
+      ∙ ap (forall_of at.now (names_view names) (One (domain_view over.now)) changed.now.reduced.now) (row_in-view InTurn row may.1)
 
   else_in-view : (w : Standing) (o : ElseNode) → ElseMayStand w (else_view o) → else_in w o ≡ else_view o
   else_in-view w Absent may = refl

@@ -7,7 +7,7 @@ use Rattle.dpl_lowered.specs.Shapes.{nowhere}
 use Rattle.dpl_nodes.specs.declared.tree.BoolExpr.{BoolExpr}
 use Rattle.dpl_nodes.specs.declared.tree.RangeExpr.{RangeExpr}
 use Rattle.dpl_nodes.specs.declared.tree.DomainExpr.{DomainExpr}
-use Rattle.dpl_nodes.specs.declared.step.Intent.{Intent}
+use Rattle.dpl_nodes.specs.declared.step.Changed.{Changed}
 use Rattle.dpl_nodes.specs.declared.step.Names.{Names}
 use Rattle.dpl_nodes.specs.declared.step.Step.{Step, Block as BlockStep, If as IfStep, While as WhileStep, For as ForStep, Forall as ForallStep, ForEach as ForEachStep, ForallEach as ForallEachStep, Row_of-Step, end_of-Step, more_of-Step, items-the_row-Step, items_hidden-the_row-Step-0}
 use Rattle.dpl_nodes.specs.declared.step.Else.TheBlock.{hidden-the_row-Step-0}
@@ -38,14 +38,14 @@ module _ (w : Standing) where
   pub for_in : (at : Bor Place) (slot : ℕ) (over : Bor RangeExpr) (body : Bor (List Step)) → step_in w (ForStep at slot over body) ≡ For at.now (variable_in slot) nowhere (range_item over.now) (listed (steps_in w body.now))
   for_in at slot over body = ap (λ ts. For at.now (variable_in slot) nowhere (range_item over.now) (listed ts)) (row_in-row w body.now)
 
-  pub forall_line_in : (at : Bor Place) (slot : ℕ) (over : Bor RangeExpr) (intents : Bor (List Intent)) (body : Bor (List Step))
-      → step_in w (ForallStep at slot over intents body) ≡ outside w (forall_of at.now (variable_in slot) (range_item over.now) intents.now (steps_in InTurn body.now))
-  forall_line_in at slot over intents body = ap (λ ts. outside w (forall_of at.now (variable_in slot) (range_item over.now) intents.now ts)) (row_in-row InTurn body.now)
+  pub forall_line_in : (at : Bor Place) (slot : ℕ) (over : Bor RangeExpr) (changed : Bor Changed) (body : Bor (List Step))
+      → step_in w (ForallStep at slot over changed body) ≡ outside w (forall_of at.now (variable_in slot) (range_item over.now) changed.now.reduced.now (steps_in InTurn body.now))
+  forall_line_in at slot over changed body = ap (λ ts. outside w (forall_of at.now (variable_in slot) (range_item over.now) changed.now.reduced.now ts)) (row_in-row InTurn body.now)
 
   pub for_each_in : (at : Bor Place) (names : Names) (over : Bor DomainExpr) (body : Bor (List Step))
       → step_in w (ForEachStep at names over body) ≡ For at.now (names_view names) nowhere (One (domain_view over.now)) (listed (steps_in w body.now))
   for_each_in at names over body = ap (λ ts. For at.now (names_view names) nowhere (One (domain_view over.now)) (listed ts)) (row_in-row w body.now)
 
-  pub forall_in : (at : Bor Place) (names : Names) (over : Bor DomainExpr) (intents : Bor (List Intent)) (body : Bor (List Step))
-      → step_in w (ForallEachStep at names over intents body) ≡ outside w (forall_of at.now (names_view names) (One (domain_view over.now)) intents.now (steps_in InTurn body.now))
-  forall_in at names over intents body = ap (λ ts. outside w (forall_of at.now (names_view names) (One (domain_view over.now)) intents.now ts)) (row_in-row InTurn body.now)
+  pub forall_in : (at : Bor Place) (names : Names) (over : Bor DomainExpr) (changed : Bor Changed) (body : Bor (List Step))
+      → step_in w (ForallEachStep at names over changed body) ≡ outside w (forall_of at.now (names_view names) (One (domain_view over.now)) changed.now.reduced.now (steps_in InTurn body.now))
+  forall_in at names over changed body = ap (λ ts. outside w (forall_of at.now (names_view names) (One (domain_view over.now)) changed.now.reduced.now ts)) (row_in-row InTurn body.now)

@@ -40,11 +40,11 @@ abbrev mutual
   step_in w (If' condition p shape row otherwise) = If nowhere (truth_view condition.now) (listed (row_in w row)) (else_in w otherwise)
   step_in w (While' at condition p shape row) = While at.now (truth_view condition.now) (listed (row_in w row))
   step_in w (For' at slot over p shape row) = For at.now (variable_in slot) nowhere (range_item over.now) (listed (row_in w row))
-  step_in w (Forall' at slot over intents p shape row) =
-      outside w (forall_of at.now (variable_in slot) (range_item over.now) intents.now (row_in InTurn row))
+  step_in w (Forall' at slot over changed p shape row) =
+      outside w (forall_of at.now (variable_in slot) (range_item over.now) changed.now.reduced.now (row_in InTurn row))
   step_in w (ForEach' at names over p shape row) = For at.now (names_view names) nowhere (One (domain_view over.now)) (listed (row_in w row))
-  step_in w (ForallEach' at names over intents p shape row) =
-      outside w (forall_of at.now (names_view names) (One (domain_view over.now)) intents.now (row_in InTurn row))
+  step_in w (ForallEach' at names over changed p shape row) =
+      outside w (forall_of at.now (names_view names) (One (domain_view over.now)) changed.now.reduced.now (row_in InTurn row))
 
   pub else_in : Standing → ElseNode → Else Variable
   else_in w Absent = NoElse

@@ -18,7 +18,7 @@ ghost use Rattle.dpl_steps.specs.Refusals.{MayRefuseForall, MayRefuseForallLine}
 use dpl_elements::Crew;
 use dpl_frame::Frame;
 use dpl_loop::RunStop;
-use dpl_nodes::{Argument, DomainExpr, Intent, Names, RangeExpr, Spot, Step};
+use dpl_nodes::{Argument, Changed, DomainExpr, Names, RangeExpr, Spot, Step};
 
 /// Where statements stand: outside of all foralls, or in a turn of one; and the gate that reductions there ask.
 pub trait Context: Crew {
@@ -47,7 +47,7 @@ pub trait Context: Crew {
             → RunsTo (MayRefuseReduction (Self.may_refuse self.now) frame.now (EachInArguments arguments.now)) result frame.now.memory (having out.new done)
             (exec frame.now.limits in_memory (outside standing (written_as ends_line arguments.now)) frame.now.memory (having out.old done)) };
 
-    /// A forall over a range, with its reduce variables.
+    /// A forall over a range, with what its turns change.
     ///
     /// # Errors
     /// The fault of what it runs over, or of the first turn that has one; out of memory; a worker was not started; or a gate refused the
@@ -57,7 +57,7 @@ pub trait Context: Crew {
         at: &Spot,
         slot: usize,
         over: &RangeExpr<'t>,
-        intents: &[Intent],
+        changed: &Changed<'t>,
         body: &[Step<'t>],
         frame: &mut Frame<Self::Kept>,
     ) -> Result<(), RunStop>
@@ -65,7 +65,7 @@ pub trait Context: Crew {
         ensures ends { (done : Deeds)
             → RunsTo (MayRefuseForallLine (Self.may_refuse self.now) frame.old at.now over.now (steps_in InTurn body.now)) result frame.new.memory done
             (exec frame.old.limits in_memory
-            (outside standing (forall_of at.now (variable_in slot) (range_item over.now) intents.now (steps_in InTurn body.now)))
+            (outside standing (forall_of at.now (variable_in slot) (range_item over.now) changed.now.reduced.now (steps_in InTurn body.now)))
             frame.old.memory done) }
         ensures limits { frame.new.limits ≡ frame.old.limits };
 
@@ -78,7 +78,7 @@ pub trait Context: Crew {
         at: &Spot,
         names: &Names<'t>,
         over: &DomainExpr<'t>,
-        intents: &[Intent],
+        changed: &Changed<'t>,
         body: &[Step<'t>],
         frame: &mut Frame<Self::Kept>,
     ) -> Result<(), RunStop>
@@ -86,7 +86,7 @@ pub trait Context: Crew {
         ensures ends { (done : Deeds)
             → RunsTo (MayRefuseForall (Self.may_refuse self.now) frame.old at.now over.now (steps_in InTurn body.now)) result frame.new.memory done
             (exec frame.old.limits in_memory
-            (outside standing (forall_of at.now (names_view names.now) (One (domain_view over.now)) intents.now (steps_in InTurn body.now)))
+            (outside standing (forall_of at.now (names_view names.now) (One (domain_view over.now)) changed.now.reduced.now (steps_in InTurn body.now)))
             frame.old.memory done) }
         ensures limits { frame.new.limits ≡ frame.old.limits };
 }

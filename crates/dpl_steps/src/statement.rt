@@ -197,9 +197,9 @@ fn any_statement<'t, C: Context>(
             at,
             slot,
             over,
-            intents,
+            changed,
             body,
-        } => context.forall_line(at, *slot, over, intents, body, frame),
+        } => context.forall_line(at, *slot, over, changed, body, frame),
         Step::ForEach {
             at,
             names,
@@ -210,9 +210,9 @@ fn any_statement<'t, C: Context>(
             at,
             names,
             over,
-            intents,
+            changed,
             body,
-        } => Context::forall(context, at, names, over, intents, body, frame),
+        } => Context::forall(context, at, names, over, changed, body, frame),
     }
 }
 

@@ -1,4 +1,4 @@
-// Whether arrays that other maps than the loop's deal out are dealt anew for its workers, and back when these are done.
+// Whether arrays that aren't cut by the loop's map are dealt anew for its workers, and back when these are done.
 // No clause speaks of it: whoever makes the turns, the loop is the same.
 
 use crate::level::{Makers, Site};
@@ -11,12 +11,15 @@ use dpl_map::Map;
 // So many words that stand side by side make good the look for their places.
 const LONG: usize = 32;
 
-// Whether the arrays in some slots are dealt out by a map, as the frame has it of their roots.
-fn are_dealt_by(slots: &[usize], map: &Map, frame: &Frame<Slots>) -> bool {
-    match slots {
-        [] => true,
-        [slot, rest @ ..] => frame.owner(*slot).is(map) && are_dealt_by(rest, map, frame),
-    }
+// Whether the arrays in some slots are cut by a map.
+fn are_cut_by(slots: &[usize], map: &Map, frame: &Frame<Slots>) -> bool {
+    let [slot, rest @ ..] = slots else {
+        return true;
+    };
+    let Some(array) = frame.array(*slot) else {
+        return false;
+    };
+    array.is_cut_by(map) && are_cut_by(rest, map, frame)
 }
 
 // Whether many words of an array stand side by side, as those from its first index on do.
@@ -41,7 +44,7 @@ fn are_soon_dealt(slots: &[usize], turns: u64, frame: &Frame<Slots>) -> bool {
     array.domain().size() / 2 <= turns && has_long_rows(array) && are_soon_dealt(rest, turns, frame)
 }
 
-/// Whether the arrays in some slots are dealt by a loop's map, or may be dealt anew for its workers. That takes two copies of each, so with an
+/// Whether the arrays in some slots are cut by a loop's map, or may be dealt anew for its workers. That takes two copies of each, so with an
 /// open gate it has to be done soon, and isn't done for the caller; a gate that isn't open sees who makes a turn, so there it is always done.
 pub(crate) fn may_deal<T, G: Gate>(
     slots: &[usize],
@@ -49,7 +52,7 @@ pub(crate) fn may_deal<T, G: Gate>(
     site: &Site<'_, T, G>,
     frame: &Frame<Slots>,
 ) -> bool {
-    if !site.gate.is_open() || are_dealt_by(slots, site.map, frame) {
+    if !site.gate.is_open() || are_cut_by(slots, site.map, frame) {
         return true;
     }
     match makers {

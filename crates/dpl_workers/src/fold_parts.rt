@@ -1,6 +1,5 @@
 // Reductions by workers: one for each locale whose part of the domain isn't empty. A level starts the worker of a locale, goes down for the
-// locales behind it, then joins the worker and puts the two ends together. Where no thread can be made, the caller folds the part; and small
-// ones over elements that go round it folds part by part, without threads.
+// locales behind it, then joins the worker and puts the two ends together. Where no thread can be made, the caller folds the part.
 
 ghost use Rattle.std.specs.Prelude.{◌≡◌, ◌-◌, ◌⊎◌, length, Result, IfOk, IfSome};
 ghost use Rattle.dpl_sets.specs.Indices.{indices};
@@ -16,10 +15,9 @@ ghost use Rattle.dpl_workers.specs.PartFolds.{PartsEnd, parts_ran, ArePartOperan
 
 use crate::ended::{Ended, both};
 use crate::fold_owned::fold_owned;
-use crate::level::Makers;
 use crate::part::PartGate;
 use crate::parts::{Part, parts};
-use crate::plan::makers;
+use crate::plan::serve;
 use crate::words::{OnWords, Words};
 use dpl_array::Row;
 use dpl_contents::DomainWord;
@@ -84,28 +82,7 @@ struct Shared<'a, W, P> {
     whole: &'a Domain,
     map: &'a Map,
     parts: &'a [Option<Part>],
-    makers: Makers,
     fold: &'a P,
-}
-
-// How two parts end: the first one's worker has a thread of its own, or the caller folds one after the other.
-fn pair<R: Threads, F: FnOnce() -> Ended + Send, B: FnOnce() -> Ended>(
-    rt: &R,
-    makers: Makers,
-    first: F,
-    behind: B,
-) -> (Ended, Ended)
-    requires { F.pre first × B.pre behind }
-    ensures first { F.post first result.0 }
-    ensures behind { B.post behind result.1 }
-{
-    match makers {
-        Makers::Workers => thread::join(rt, first, behind),
-        Makers::Caller => {
-            let ended = first();
-            (ended, behind())
-        }
-    }
 }
 
 // What the parts of the locales from one on come to together.
@@ -153,13 +130,13 @@ fn spread<R: Threads + Sync, W: OnWords + Sync, P: Fn(Part, usize) -> Ended + Sy
             (ArePartOperands (W.op shared.entry.now.operator.now) (in_turns meaning) shared.entry.now.whole.now shared.entry.now.map.now next
             (length shared.entry.now.parts.now - next)) result.turn result.item }
     { spread(rt, shared, next) };
-    let (first, behind) = pair(rt, shared.makers, own, others);
+    let (first, behind) = thread::join(rt, own, others);
     both(shared.operator, shared.whole, first, behind)
 }
 
 /// The ints of a domain's indices put together, as [`reduce_ints`](dpl_loop::reduce_ints) does it: by workers, one for each locale whose part
-/// of the domain isn't empty, where they serve, and else by the caller, in order or part by part. All workers are joined before it answers.
-/// Where no thread can be made for a part, the caller folds it.
+/// of the domain isn't empty, where they serve, and else by the caller. All workers are joined before it answers. Where no thread can be
+/// made for a part, the caller folds it.
 ///
 /// # Errors
 /// The first of these that came up in a part: out of memory; the gate refused the entry of an index's owner, which it may, or an item's own
@@ -186,11 +163,11 @@ pub fn reduce_by_workers<
         turn.new result (fold_over (O.op operator.now) meaning dealt.now.over) }
 {
     let whole = dealt.over.domain();
-    let Some(makers) = makers(&whole, dealt.map, dealt.gate) else {
+    if !serve(&whole, dealt.map, dealt.gate) {
         return fold_strips(
             operator, &whole, dealt.map, &item_at, &strip_at, dealt.gate, turn,
         );
-    };
+    }
     let Ok(parts) = parts(alloc, dealt.map, &whole) else {
         return Err(Alarm::out_of_memory());
     };
@@ -206,7 +183,6 @@ pub fn reduce_by_workers<
         whole: &whole,
         map: dealt.map,
         parts: &parts,
-        makers,
         fold: &fold,
     };
     let ended = spread(rt, &shared, 0);

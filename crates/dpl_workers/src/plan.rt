@@ -1,8 +1,8 @@
 // Foralls by workers: one for each locale whose part of the loop's domain isn't empty. Each owns its pieces of the arrays that the turns
 // write, is lent the others, and adds to reduce variables from nothing; then all is put together.
 // Turns that don't tell how they may be made apart are made in order, and so are those for which workers don't serve: where the gate is open
-// and the loop is small or cut into small blocks, or writes an array of another map that isn't soon dealt anew (dealt.rt). Of small loops the
-// caller makes those part by part, without threads, whose next index lies with another locale each time.
+// and the loop is small or cut into small blocks, or writes an array of another map that isn't soon dealt anew (dealt.rt). Of small loops over
+// arrays that are cut the caller makes those part by part, without threads, whose next index lies with another locale each time.
 
 ghost use Rattle.std.specs.Prelude.{◌≡◌, [], ◌∷◌, ℕ, None, Ok, Err, map, length, IfOk, IfErr, IfSome, OnOk};
 ghost use Rattle.std.specs.List.{AllByRecursion};
@@ -31,7 +31,7 @@ use crate::level::{Makers, Site, work_all};
 use crate::parts::{Part, parts};
 use crate::soonest::ended;
 use crate::taken::{Taken, take_all};
-use dpl_contents::DomainWord;
+use dpl_contents::{DomainWord, WORTH};
 use dpl_domain::{Domain, Index};
 use dpl_frame::{Frame, Slots};
 use dpl_loop::{Apart, Gate, RunStop, Turns, turns_of};
@@ -39,9 +39,6 @@ use dpl_map::Map;
 use std::alloc::AllocError;
 use std::sync::Wait;
 use std::thread::Threads;
-
-// Below so many turns an open gate's loop is made by its caller: to start and to join workers takes as long as they do.
-const WORTH: u64 = 30_000;
 
 // Where a part is several domains, each worker looks at all blocks of the domain: so many indices of a row make good the look at one.
 const LONG: u64 = 32;
@@ -58,8 +55,8 @@ fn has_long_blocks(domain: &Domain, map: &Map) -> bool {
     LONG < behind.saturating_add(before)
 }
 
-// Whether workers serve a loop. A gate that isn't open sees who makes a turn, so there they are always started.
-fn serve<G: Gate>(domain: &Domain, map: &Map, gate: &G) -> bool {
+/// Whether workers serve a loop. A gate that isn't open sees who makes a turn, so there they are always started.
+pub(crate) fn serve<G: Gate>(domain: &Domain, map: &Map, gate: &G) -> bool {
     if !gate.is_open() {
         return true;
     }
@@ -82,8 +79,8 @@ fn goes_round(domain: &Domain, map: &Map) -> bool {
     FEW <= inner.size() / u64::from(locales).max(1)
 }
 
-/// Who makes the parts of a loop; none where it is made in order.
-pub(crate) fn makers<G: Gate>(domain: &Domain, map: &Map, gate: &G) -> Option<Makers> {
+// Who makes the parts of a loop; none where it is made in order.
+fn makers<G: Gate>(domain: &Domain, map: &Map, gate: &G) -> Option<Makers> {
     if serve(domain, map, gate) {
         return Some(Makers::Workers);
     }

@@ -264,7 +264,7 @@ statement::any_statement-returns-in-Forall-clause-ends g t c done =
     let d = having c.args.out.now done in
     ends-wider _ _ c.forall_line.result c.forall_line.new.frame.memory d _ _ (some-of-forall _ c.args.frame.now (EachInRange c.in-Forall.over.now) _ _ _)
     (ap (λ s. exec limits in_memory (step_in standing s) w d) c.in-Forall.is
-    ∙ ap (λ t. exec limits in_memory t w d) (forall_line_in standing c.in-Forall.at c.in-Forall.slot c.in-Forall.over c.in-Forall.intents c.in-Forall.body))
+    ∙ ap (λ t. exec limits in_memory t w d) (forall_line_in standing c.in-Forall.at c.in-Forall.slot c.in-Forall.over c.in-Forall.changed c.in-Forall.body))
     (c.forall_line.ensures.ends d)
 
 pub statement::for_loop-returns-clause-ends : goal.statement::for_loop-returns-clause-ends
@@ -419,7 +419,7 @@ statement::any_statement-returns-in-ForallEach-clause-ends g t c done =
     let d = having c.args.out.now done in
     ends-wider _ _ c.forall.result c.forall.new.frame.memory d _ _ (some-of-forall _ c.args.frame.now (EachInDomain c.in-ForallEach.over.now) _ _ _)
     (ap (λ s. exec limits in_memory (step_in standing s) w d) c.in-ForallEach.is
-    ∙ ap (λ t. exec limits in_memory t w d) (forall_in standing c.in-ForallEach.at c.in-ForallEach.names c.in-ForallEach.over c.in-ForallEach.intents c.in-ForallEach.body))
+    ∙ ap (λ t. exec limits in_memory t w d) (forall_in standing c.in-ForallEach.at c.in-ForallEach.names c.in-ForallEach.over c.in-ForallEach.changed c.in-ForallEach.body))
     (c.forall.ensures.ends d)
 
 pub each::for_each-returns-clause-ends : goal.each::for_each-returns-clause-ends

@@ -13,7 +13,7 @@ use Rattle.dpl_rules.specs.Loops.{ForWord, ForallWord}
 use Rattle.dpl_deeds.specs.View.{deed_view}
 use Rattle.dpl_lowered.specs.LoweredExpressions.{Once}
 use Rattle.dpl_nodes.specs.declared.step.Step.{Block as BlockStep}
-use Rattle.dpl_nodes.specs.Steps.{steps_of}
+use Rattle.dpl_nodes.specs.Steps.{intent_view, steps_of}
 use Rattle.dpl_typed.specs.Lowered.{leaves_of}
 use Rattle.dpl_typed.proofs.Standing.{if_ok, on_any}
 use Rattle.dpl_checker.specs.Walks.{sight_in, WalksStmt, WalksInner, of_variables}
@@ -111,7 +111,8 @@ forall_turns-returns-clause-makes t c = λ none plain.
     let before = untold_before (record c.open_shared.new.walk { deeds = c.with_deeds.new.deeds }) c.body.new.walk c.in-Ok-body.ensures.walks ended in
     let opened = c.in-Ok-open_shared.ensures.makes before plain.1 in
     forall-made ss turns.at turns.within xs item body c.in-Ok.at c.in-Ok-open_shared.opened c.in-Ok-body.body c.forall_step.result (c.in-Ok.ensures plain.0)
-    (optional with_view turns.with) c.in-Ok-open_shared.reduced.now opened (c.in-Ok-open_shared.ensures.reduced before plain.1.known)
+    (optional with_view turns.with) c.in-Ok-changed.changed.now.reduced.now opened
+    (ap (map intent_view) c.in-Ok-changed.ensures ∙ c.in-Ok-open_shared.ensures.reduced before plain.1.known)
     (body_made_at (of_variables ss ForallWord xs item) c.open_shared.new.walk.scopes body c.body.new.walk.first c.in-Ok-body.body.now c.in-Ok-open_shared.ensures.walks.scopes c.in-Ok-body.ensures.makes ended plain.2)
     (c.forall_step.ensures opened.fits)
 

@@ -13,7 +13,7 @@ use Rattle.dpl_heads.proofs.steps.forall_step.Goals as goal
 pub returns-in-Int : goal.returns-in-Int
 returns-in-Int c = λ fits.
     let range = iterable.Range c.in-Range.range in
-    let is = with_intents (map intent_view c.args.intents.now) in
+    let is = with_intents (map intent_view c.args.changed.now.reduced.now) in
     ap (λ row. Forall c.args.at.now (names_view (names.Int c.in-Int.slot)) nowhere (over_item range) is (listed row)) (steps_view-row c.args.body.now)
     ∙ ap (λ n. Forall c.args.at.now (names_view n) nowhere (over_item range) is (listed (steps_of c.args.body.now))) (sym c.in-Int.is)
     ∙ ap (λ o. Forall c.args.at.now (names_view c.args.names) nowhere (over_item o) is (listed (steps_of c.args.body.now))) (sym c.in-Range.is)
@@ -21,6 +21,6 @@ returns-in-Int c = λ fits.
 pub returns-in-Domain : goal.returns-in-Domain
 returns-in-Domain c = λ fits.
     let domain = iterable.Domain c.in-Domain.domain in
-    let is = with_intents (map intent_view c.args.intents.now) in
+    let is = with_intents (map intent_view c.args.changed.now.reduced.now) in
     ap (λ row. Forall c.args.at.now (names_view c.args.names) nowhere (over_item domain) is (listed row)) (steps_view-row c.args.body.now)
     ∙ ap (λ o. Forall c.args.at.now (names_view c.args.names) nowhere (over_item o) is (listed (steps_of c.args.body.now))) (sym c.in-Domain.is)

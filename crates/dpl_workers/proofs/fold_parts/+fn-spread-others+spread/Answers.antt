@@ -29,11 +29,11 @@ returns g t c meaning tells =
     let l = c.args.locale in
     let n = length c.args.shared.now.parts.now in
     let here = c.in-Some.ensures.lookup.3 in
-    let first = c.pair-first.result.0 in
-    let behind = c.pair-first.result.1 in
+    let first = c.join-first.result.0 in
+    let behind = c.join-first.result.1 in
     let sole = subst (IsPart whole axes l) (sym (here.1 None) ∙ c.in-Some-part.is) (c.requires.parts.each l here.0) in
     level-ends op meaning whole axes l n here.0 _ value first.item behind.item c.both-2.result.item first.turn behind.turn c.both-2.result.turn
     c.both-2.ensures
     (part-ends op meaning whole axes _ value l (indices_of c.in-Some-part.part whole axes l) first.turn first.item sole
-    (told-or-refused value op meaning whole axes _ tells c.in-Some-part.part l first c.pair-first.ensures.first))
-    (c.pair-first.ensures.behind meaning tells)
+    (told-or-refused value op meaning whole axes _ tells c.in-Some-part.part l first c.join-first.ensures.first))
+    (c.join-first.ensures.second meaning tells)

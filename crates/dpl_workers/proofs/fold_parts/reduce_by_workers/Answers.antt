@@ -14,8 +14,8 @@ use Rattle.dpl_workers.proofs.Folds.{all-end}
 use Rattle.dpl_loop.proofs.Places.{among}
 use Rattle.dpl_workers.proofs.fold_parts.reduce_by_workers.Goals as goal
 
-pub returns-in_default : goal.returns-in_default
-returns-in_default g c meaning answers strips =
+pub returns-then-not-serve : goal.returns-then-not-serve
+returns-then-not-serve g c meaning answers strips =
     let whole = c.domain-whole.result in
     let over = c.args.dealt.now.over in
     let same = ap indices c.domain-whole.ensures.domain in

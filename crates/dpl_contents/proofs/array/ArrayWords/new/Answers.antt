@@ -14,13 +14,13 @@ pub invariant_of-result : goal.invariant_of-result
 invariant_of-result c =
     let word_fits : FitsSigned w64 c.args.word = c.ranges.word in
     let array = simp to_z-of_z at c.in_ok-array.ensures.array in
-    over-filled_array c.args.domain c.domain.result c.domain.ensures.domain c.domain.ensures.limits c.args.owners c.args.word c.in_ok-array.array array
+    over-filled_array c.args.domain c.domain.result c.domain.ensures.domain c.domain.ensures.limits c.cut-map.result c.args.word c.in_ok-array.array array
 
 pub returns-clause-array : goal.returns-clause-array
 returns-clause-array c =
     let word_fits : FitsSigned w64 c.args.word = c.ranges.word in
     let array = simp to_z-of_z at c.in_ok-array.ensures.array in
-    seen-filled_array c.args.domain c.domain.result c.domain.ensures.domain c.domain.ensures.limits c.args.owners c.args.word c.in_ok-array.array array
+    seen-filled_array c.args.domain c.domain.result c.domain.ensures.domain c.domain.ensures.limits c.cut-map.result c.args.word c.in_ok-array.array array
 
 pub returns-clause-size : goal.returns-clause-size
 returns-clause-size c =

@@ -10,5 +10,7 @@ use Rattle.dpl_program.proofs.body.BodyTurns.apart.Goals as goal
 pub returns : goal.returns
 returns c limits =
     let b = c.args.self.now in
-    tested-apart limits b.rank b.names b.written.now (intents_by_slot (map intent_view b.reduced.now)) (steps_in InTurn b.steps.now) b.numbers.now b.tuples.now
+    let changed = b.changed.now in
+    tested-apart limits b.rank b.names changed.written.now (intents_by_slot (map intent_view changed.reduced.now)) (steps_in InTurn b.steps.now)
+    changed.numbers.now changed.tuples.now
     (c.are_own.ensures.numbers c.if-not-are_own.false) (c.are_own.ensures.tuples c.if-not-are_own.false) (c.are_independent.ensures c.if-not-are_independent.false)

@@ -21,5 +21,5 @@ returns-clause-ends g c done =
     let may = g.G.Gate.may_refuse c.args.self.now.gate.now in
     ends-wider _ _ c.make.result c.make.new.arg3.memory done _ _
     (λ entry. inl (Domain rs, c.in_ok-indices.ensures, subst (λ o. MayRefuse may (dealt_by f o (written_among body)) rs) c.origin.ensures entry))
-    (forall-domain f.limits c.args.names.now body (map intent_view c.args.intents.now) c.args.at.now (One (domain_view c.args.over.now)) f.memory done rs c.in_ok-indices.ensures)
+    (forall-domain f.limits c.args.names.now body (map intent_view c.args.changed.now.reduced.now) c.args.at.now (One (domain_view c.args.over.now)) f.memory done rs c.in_ok-indices.ensures)
     ((c.requires.ready.3 _ _ _ _ c.make.ensures).0 done)

@@ -21,14 +21,14 @@ returns-in_default-clause-ends g c done =
     let f = c.args.frame.now in
     let r = range_word c.in_ok-range.range in
     ends-wider _ _ c.turns_of_line.result c.turns_of_line.new.frame.memory done _ _ (λ entry. inl (Range r, c.in_ok-range.ensures, entry))
-    (forall-range f.limits (IntName c.args.slot) (steps_in InTurn c.args.body.now) (map intent_view c.args.intents.now) c.args.at.now (range_item c.args.over.now) f.memory done r c.in_ok-range.ensures)
+    (forall-range f.limits (IntName c.args.slot) (steps_in InTurn c.args.body.now) (map intent_view c.args.changed.now.reduced.now) c.args.at.now (range_item c.args.over.now) f.memory done r c.in_ok-range.ensures)
     (c.turns_of_line.ensures.ends done)
 
 pub returns-clause-ends : goal.returns-clause-ends
 returns-clause-ends g c done =
     let f = c.args.frame.now in
     let body = steps_in InTurn c.args.body.now in
-    let intents = map intent_view c.args.intents.now in
+    let intents = map intent_view c.args.changed.now.reduced.now in
     let r = range_word c.in_ok-range.range in
     let may = g.G.Gate.may_refuse c.args.self.now.gate.now in
     let same : c.in-Some.indices ≡ r ∷ [] = c.in-Some.ensures.held in
