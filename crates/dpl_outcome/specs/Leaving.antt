@@ -1,6 +1,6 @@
 -- The variables that a run leaves, as entries of a frame. Of an array there stand its domain and its elements.
 use Rattle.dpl_language.specs.Values.{Int as IntMeant, Truth as TruthMeant, Range as RangeMeant, Domain as DomainMeant}
-use Rattle.std.specs.Prelude.{◌≡◌, ℕ, bytes_eq, if◌then◌else◌, List, [], ◌∷◌, map, get_or, Option, Some, None}
+use Rattle.std.specs.Prelude.{ℕ, bytes_eq, if◌then◌else◌, List, [], ◌∷◌, map, get_or, Option, Some, None}
 use Rattle.dpl_language.specs.Tree.{IntKind, BoolKind}
 use Rattle.dpl_language.specs.Environment.{Content, Plain}
 use Rattle.dpl_language.specs.Names.{Text, Entry, Frame}

@@ -1,23 +1,24 @@
--- The names of a program's top level, in the order of their declarations.
--- Declarations in blocks, branches and loops are not among them.
+-- The names in sight, in the order of their declarations.
+-- A scope has its latest declaration first; marks are in the order in which they were made.
 use Rattle.std.specs.Prelude.{List, [], ◌∷◌, ◌++◌}
-use Rattle.dpl_language.specs.Tree.{StmtTree, Nothing, Declare, Assigned, Call, Write, Block, If, While, For, Forall, Coforall, On, Stmts, NoStmts, Then}
 use Rattle.dpl_language.specs.Names.{Text}
+use Rattle.dpl_rules.specs.Sights.{Scope, Scopes}
+use Rattle.dpl_scopes.specs.declared.scopes.Mark.{Mark}
+use Rattle.dpl_scopes.specs.declared.scopes.Mark.TheVariants.{Opens, Declares}
 
-abbrev pub declared_by : StmtTree Text → List Text
-declared_by (Nothing at) = []
-declared_by (Declare d) = d.name.name ∷ []
-declared_by (Assigned target sign item semicolon) = []
-declared_by (Call x dot call semicolon) = []
-declared_by (Write w) = []
-declared_by (Block from ts upto) = []
-declared_by (If at e first second) = []
-declared_by (While at e body) = []
-declared_by (For at xs word item body) = []
-declared_by (Forall at xs word item intents body) = []
-declared_by (Coforall at xs word item intents body) = []
-declared_by (On at e body) = []
+abbrev pub names_in : Scope → List Text
+names_in [] = []
+names_in (d ∷ ds) = names_in ds ++ d.origin.name ∷ []
 
-abbrev pub declared_names : Stmts Text → List Text
-declared_names NoStmts = []
-declared_names (Then t rest) = declared_by t ++ declared_names rest
+abbrev pub names_of : Scopes → List Text
+names_of [] = []
+names_of (s ∷ ss) = names_of ss ++ names_in s
+
+-- those that marks declare
+abbrev pub marked_by : Mark → List Text
+marked_by Opens = []
+marked_by (Declares e) = e.declared.origin.name.now ∷ []
+
+abbrev pub marked_names : List Mark → List Text
+marked_names [] = []
+marked_names (m ∷ ms) = marked_by m ++ marked_names ms

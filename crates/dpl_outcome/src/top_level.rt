@@ -2,18 +2,17 @@
 // Their values are what the frame has in the slots of their names.
 
 ghost use Rattle.std.specs.Prelude.{◌≡◌, ◌++◌, IfOk, OnOk, map, IfSome, IfNone};
-ghost use Rattle.dpl_tree.specs.Statements.{stmt_view, stmts_of};
 ghost use Rattle.dpl_scopes.specs.Types.{type_view};
 ghost use Rattle.dpl_memory.specs.Memory.{int_leaf};
 ghost use Rattle.dpl_scopes.specs.Slots.{slot_in};
 ghost use Rattle.dpl_typed.specs.Leaves.{type_in};
 ghost use Rattle.dpl_outcome.specs.Leaving.{value_held, content_kept, entry_kept, held_as, held_by, held_entry, held_frame};
-ghost use Rattle.dpl_outcome.specs.Names.{declared_by, declared_names};
+ghost use Rattle.dpl_outcome.specs.Names.{names_of, marked_by, marked_names};
 
 use crate::left::{Kept, Left, Named};
 use dpl_frame::Frame;
-use dpl_scopes::{Scopes, ValueType};
-use dpl_tree::{ScalarKind, Stmt};
+use dpl_scopes::{Mark, Scopes, ValueType};
+use dpl_tree::ScalarKind;
 use std::alloc::{AllocError, Global};
 
 // What a slot holds for a type. What has no slot of its own counts as the int in the first one.
@@ -66,66 +65,52 @@ fn named(
     })
 }
 
-// Puts the name that a statement declares, if it declares one, behind the others.
+// Puts the name that a mark declares, if it declares one, behind the others.
 fn add(
     alloc: Global,
     scopes: &Scopes<'_>,
-    stmt: &Stmt<'_>,
+    mark: &Mark<'_>,
     frame: &Frame,
     variables: &mut Vec<Named>,
 ) -> Result<(), AllocError>
     ensures { OnOk result (map (entry_kept frame.now.memory.arrays) variables.new.items
-        ≡ map (entry_kept frame.now.memory.arrays) variables.old.items ++ held_frame scopes.now frame.now.memory (declared_by (stmt_view stmt.now))) }
+        ≡ map (entry_kept frame.now.memory.arrays) variables.old.items ++ held_frame scopes.now frame.now.memory (marked_by mark.now)) }
 {
-    match stmt {
-        Stmt::Declare(declared) => {
-            let one = named(alloc, scopes, declared.name.text, frame)?;
+    match mark {
+        Mark::Opens => Ok(()),
+        Mark::Declares(entry) => {
+            let one = named(alloc, scopes, entry.declared.origin.name, frame)?;
             variables.push(one)?;
             Ok(())
         }
-        Stmt::Nothing(_)
-        | Stmt::Assigned(_)
-        | Stmt::Call(_)
-        | Stmt::Write(_)
-        | Stmt::Block(_)
-        | Stmt::If(_)
-        | Stmt::While(_)
-        | Stmt::For(_)
-        | Stmt::Forall(_)
-        | Stmt::Coforall(_)
-        | Stmt::On(_) => Ok(()),
     }
 }
 
-// The names that statements declare at their own level, with what is kept of each.
+// The names that marks declare, with what is kept of each.
 fn names(
     alloc: Global,
     scopes: &Scopes<'_>,
-    stmts: &[Stmt<'_>],
+    marks: &[Mark<'_>],
     frame: &Frame,
 ) -> Result<Vec<Named>, AllocError>
     ensures { IfOk result (λ named. map (entry_kept frame.now.memory.arrays) named.items
-        ≡ held_frame scopes.now frame.now.memory (declared_names (stmts_of stmts.now))) }
+        ≡ held_frame scopes.now frame.now.memory (marked_names marks.now)) }
 {
     let mut variables = Vec::new(alloc);
-    for stmt in stmts {
-        add(alloc, scopes, stmt, frame, &mut variables)?;
+    for mark in marks {
+        add(alloc, scopes, mark, frame, &mut variables)?;
     }
     Ok(variables)
 }
 
-/// The names that the statements of a program declare at its top level, with what they hold in a frame. Arrays are moved.
+/// The names in sight, with what they hold in a frame, in the order of their declarations: behind a program those of its top level. Arrays
+/// are moved.
 ///
 /// # Errors
 /// Out of memory.
-pub fn collect(
-    alloc: Global,
-    scopes: &Scopes<'_>,
-    stmts: &[Stmt<'_>],
-    frame: Frame,
-) -> Result<Left, AllocError>
-    ensures { IfOk result (λ left. left ≡ held_frame scopes.now frame.memory (declared_names (stmts_of stmts.now))) }
+pub fn collect(alloc: Global, scopes: &Scopes<'_>, frame: Frame) -> Result<Left, AllocError>
+    ensures { IfOk result (λ left. left ≡ held_frame scopes.now frame.memory (names_of scopes.now)) }
 {
-    let named = names(alloc, scopes, stmts, &frame)?;
+    let named = names(alloc, scopes, scopes.marks(), &frame)?;
     Left::new(alloc, frame.into_arrays(), named)
 }

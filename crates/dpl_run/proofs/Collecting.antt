@@ -1,11 +1,11 @@
 -- What is left at a program's end: the names of its top level, each with its kind and slot, are what is in sight there.
 -- A scope has its latest declaration first, and names are told in order.
-use Rattle.std.proofs.Common.{◌≡◌, ◌+◌, Bool, true, false, ℕ, List, [], ◌∷◌, ◌++◌, map, length, Option, Some, None, refl, sym, ap, ◌∙◌, subst, append_assoc}
+use Rattle.std.proofs.Common.{◌≡◌, ◌+◌, Bool, true, false, ℕ, List, [], ◌∷◌, ◌++◌, map, length, Option, Some, None, refl, sym, ap, ◌∙◌, subst}
 use Rattle.std.specs.Prelude.{bytes_eq, if◌then◌else◌}
-use Rattle.std.proofs.lemmas.List.{map-append, append-nil}
+use Rattle.std.proofs.lemmas.List.{map-append}
 use Rattle.std.proofs.lemmas.Option.{none-some}
 use Rattle.std.proofs.lemmas.Slice.Eq.{bytes_eq-Decides}
-use Rattle.dpl_language.specs.Tree.{Kind, IntKind, BoolKind, StmtTree, Nothing, Declare, Assigned, Call, Write, Block, If, While, For, Forall, Coforall, On, Stmts, NoStmts, Then}
+use Rattle.dpl_language.specs.Tree.{Kind, IntKind, BoolKind, StmtTree, Stmts, NoStmts, Then}
 use Rattle.dpl_language.specs.Names.{Text, Entry}
 use Rattle.dpl_agreement.specs.Scopes.{PlainForm}
 use Rattle.dpl_rules.specs.Sights.{Declared, Scope, Scopes, find, lookup, type_declared}
@@ -23,48 +23,24 @@ use Rattle.dpl_bound.specs.Shapes.{shape_by}
 use Rattle.dpl_runnable.proofs.Kept.{kind_if-some}
 use Rattle.dpl_bound.specs.Sights.{bound_at, sighted_at, frame_from, sight_of, is_promoted_by, IsKnownScope, AreKnownScopes}
 use Rattle.dpl_runnable.proofs.Sights.{HasKnownKind, lookup-known}
-use Rattle.dpl_outcome.specs.Names.{declared_by, declared_names}
+use Rattle.dpl_runnable.proofs.Scoped.{behind-cases}
+use Rattle.dpl_outcome.specs.Names.{names_in, names_of}
 use Rattle.dpl_outcome.specs.Leaving.{held_by, held_frame}
 use Rattle.dpl_run.specs.TopLevel.{sighted_in, IsLeft, AreLeft}
 
--- the names of a scope, in order
-abbrev names_in : Scope → List Text
-names_in [] = []
-names_in (d ∷ ds) = names_in ds ++ d.origin.name ∷ []
-
 -- ---- no scope is opened at the top
-record Grown (before : Scope) (names : List Text) (ss : Scopes) : Type 0 where
-  scope : Scope
-  one : ss ≡ scope ∷ []
-  named : names_in scope ≡ names_in before ++ names
+abbrev IsOne : Scopes → Type 0
+IsOne ss = (s : Scope) × (ss ≡ s ∷ [])
 
-stays : (s : Scope) → Grown s [] (s ∷ [])
-stays s = record { scope = s; one = refl; named = sym (append-nil (names_in s)) }
+behind-one : (s : Scope) (t : StmtTree Text) → IsOne (behind (s ∷ []) t)
+behind-one s t = behind-cases IsOne t (s ∷ []) (s, refl) (λ d. (d ∷ s, refl))
 
-behind-grown : (s : Scope) (t : StmtTree Text) → Grown s (declared_by t) (behind (s ∷ []) t)
-behind-grown s (Nothing at) = stays s
-behind-grown s (Declare d) = record { scope = _; one = refl; named = refl }
-behind-grown s (Assigned target sign item semicolon) = stays s
-behind-grown s (Call x dot call semicolon) = stays s
-behind-grown s (Write w) = stays s
-behind-grown s (Block from ts upto) = stays s
-behind-grown s (If at e first second) = stays s
-behind-grown s (While at e body) = stays s
-behind-grown s (For at xs word item body) = stays s
-behind-grown s (Forall at xs word item intents body) = stays s
-behind-grown s (Coforall at xs word item intents body) = stays s
-behind-grown s (On at e body) = stays s
-
-behind_all-grown : (s : Scope) (ts : Stmts Text) → Grown s (declared_names ts) (behind_all (s ∷ []) ts)
-behind_all-grown s NoStmts = stays s
-behind_all-grown s (Then t rest) =
-    let first = behind-grown s t in
-    let more = behind_all-grown first.scope rest in
-    record {
-      scope = more.scope;
-      one = ap (λ ss. behind_all ss rest) first.one ∙ more.one;
-      named = more.named ∙ ap (λ xs. xs ++ declared_names rest) first.named ∙ append_assoc (names_in s) (declared_by t) (declared_names rest);
-    }
+behind_all-one : (s : Scope) (ts : Stmts Text) → IsOne (behind_all (s ∷ []) ts)
+behind_all-one s NoStmts = (s, refl)
+behind_all-one s (Then t rest) =
+    let first = behind-one s t in
+    let more = behind_all-one first.0 rest in
+    (more.0, ap (λ ss. behind_all ss rest) first.1 ∙ more.1)
 
 -- ---- a scope's names with their kinds and slots
 -- a name that is found in a scope isn't the name of one more declaration
@@ -115,18 +91,17 @@ frame-names s (d ∷ ds) h =
     ∙ ap (frame_in s) (sym (map-append (sighted_in ((d ∷ ds) ∷ [])) (names_in ds) (d.origin.name ∷ [])))
 
 -- ---- what is in sight at the end
-names_in_order-one : (m : Memory) (ss : Scopes) (s : Scope) (names : List Text) → ss ≡ s ∷ [] → names_in s ≡ names → AreKnownScopes ss → frame_in m (names_in_order (sight_of ss)) ≡ frame_in m (map (sighted_in ss) names)
-names_in_order-one m ss s names one named known =
+names_in_order-one : (m : Memory) (ss : Scopes) (s : Scope) → ss ≡ s ∷ [] → AreKnownScopes ss → frame_in m (names_in_order (sight_of ss)) ≡ frame_in m (map (sighted_in ss) (names_of ss))
+names_in_order-one m ss s one known =
     let scope : IsKnownScope 1 s = (subst AreKnownScopes one known).0 in
     ap (λ ss. frame_in m (names_in_order (sight_of ss))) one
     ∙ frame-names m s scope
-    ∙ ap (λ xs. frame_in m (map (sighted_in (s ∷ [])) xs)) named
-    ∙ ap (λ ss. frame_in m (map (sighted_in ss) names)) (sym one)
+    ∙ ap (λ ss. frame_in m (map (sighted_in ss) (names_of ss))) (sym one)
 
-pub names_in_order-declared : (m : Memory) (ts : Stmts Text) → AreKnownScopes (behind_all top ts) → frame_in m (names_in_order (sight_of (behind_all top ts))) ≡ frame_in m (map (sighted_in (behind_all top ts)) (declared_names ts))
-names_in_order-declared m ts known =
-    let g = behind_all-grown [] ts in
-    names_in_order-one m (behind_all top ts) g.scope (declared_names ts) g.one g.named known
+pub names_in_order-top : (m : Memory) (ts : Stmts Text) → AreKnownScopes (behind_all top ts) → frame_in m (names_in_order (sight_of (behind_all top ts))) ≡ frame_in m (map (sighted_in (behind_all top ts)) (names_of (behind_all top ts)))
+names_in_order-top m ts known =
+    let one = behind_all-one [] ts in
+    names_in_order-one m (behind_all top ts) one.0 one.1 known
 
 -- ---- what variables hold
 abbrev HoldsAlike : Memory → Text → Option ℕ → Option ValueType → Type 0

@@ -44,10 +44,10 @@ use Rattle.dpl_loop.specs.Runs.{having_printed}
 use Rattle.dpl_outcome.specs.declared.outcome.Outcome.{Outcome}
 use Rattle.dpl_outcome.specs.declared.outcome.Outcome.TheVariants.{Done as DoneWith, Stopped, Rejected}
 use Rattle.dpl_run.specs.Headline.{ending}
-use Rattle.dpl_outcome.specs.Names.{declared_names}
+use Rattle.dpl_outcome.specs.Names.{names_of}
 use Rattle.dpl_run.specs.TopLevel.{sighted_in}
 use Rattle.dpl_run.specs.Runs.{RanTo}
-use Rattle.dpl_run.proofs.Collecting.{names_in_order-declared}
+use Rattle.dpl_run.proofs.Collecting.{names_in_order-top}
 
 -- ---- the ends of the two runs
 done-alike : (R : State → Memory → Type 0) (o : Meant State) (r : Meant Memory) (last : Memory) (done : Deeds) → EndsAlike R o r → r ≡ Done last done → (s : State) × (o ≡ Done s done)
@@ -130,21 +130,21 @@ module _ (t : ProgramTree Text) (sets : List (List ℕ)) (slots : ℕ) (scopes :
 
     -- what the names of the top level hold at the end
     leaves : (histories : List (List Event)) (last : Memory) (done : Deeds) → exec_all limits in_memory (steps_of steps) (first_memory start) no_deeds ≡ Done last done
-        → option_map own_frame (left (run_of t sets limits histories)) ≡ Some (frame_in last (map (sighted_in scopes) (declared_names t.stmts)))
+        → option_map own_frame (left (run_of t sets limits histories)) ≡ Some (frame_in last (map (sighted_in scopes) (names_of scopes)))
     leaves histories last done e =
         ap (λ p. option_map own_frame (left (meaning p (given t sets) limits histories))) (sym plan.text)
         ∙ left-memory start limits plan.resolved histories tt fits
         ∙ ap (left_in (after_all (resolving start) plan.resolved.stmts first_seen).frames) (by_plan (Done last done) e)
         ∙ ap (λ fs. Some (frame_in last (names_in_order fs))) (plan.sight start ∙ ap sight_of plan.behind)
-        ∙ ap (λ f. Some f) (names_in_order-declared last t.stmts (subst AreKnownScopes plan.behind plan.plain))
-        ∙ ap (λ ss. Some (frame_in last (map (sighted_in ss) (declared_names t.stmts)))) (sym plan.behind)
+        ∙ ap (λ f. Some f) (names_in_order-top last t.stmts (subst AreKnownScopes plan.behind plan.plain))
+        ∙ ap (λ ss. Some (frame_in last (map (sighted_in ss) (names_of ss)))) (sym plan.behind)
 
     means-done : (histories : List (List Event)) (last : Memory) (out : List ℕ) (frame : Frame) → exec_all limits in_memory (steps_of steps) (first_memory start) no_deeds ≡ Done last (having_printed out no_deeds)
-        → frame ≡ frame_in last (map (sighted_in scopes) (declared_names t.stmts)) → Means t sets limits histories (Leaves frame) out
+        → frame ≡ frame_in last (map (sighted_in scopes) (names_of scopes)) → Means t sets limits histories (Leaves frame) out
     means-done histories last out frame e are =
         let d = done-alike _ (run_of t sets limits histories) _ last (having_printed out no_deeds) (ends histories) (by_plan (Done last (having_printed out no_deeds)) e) in
-        let held : Some (own_frame (top_level d.0.store)) ≡ Some (frame_in last (map (sighted_in scopes) (declared_names t.stmts))) = sym (ap (λ o. option_map own_frame (left o)) d.1) ∙ leaves histories last (having_printed out no_deeds) e in
-        let same : own_frame (top_level d.0.store) ≡ frame_in last (map (sighted_in scopes) (declared_names t.stmts)) = cc in
+        let held : Some (own_frame (top_level d.0.store)) ≡ Some (frame_in last (map (sighted_in scopes) (names_of scopes))) = sym (ap (λ o. option_map own_frame (left o)) d.1) ∙ leaves histories last (having_printed out no_deeds) e in
+        let same : own_frame (top_level d.0.store) ≡ frame_in last (map (sighted_in scopes) (names_of scopes)) = cc in
         record {
           happened = subst (λ (o : Meant State). Happened o) (sym d.1) tt;
           writes = ap written (sym d.1);
@@ -162,7 +162,7 @@ module _ (t : ProgramTree Text) (sets : List (List ℕ)) (slots : ℕ) (scopes :
         }
 
     -- how the run in a memory ended is how the program's run does
-    pub means-ran : (histories : List (List Event)) (o : Outcome) (said : List ℕ) → RanTo scopes t.stmts (exec_all limits in_memory (steps_of steps) (first_memory start) no_deeds) o said → Means t sets limits histories (ending o) said
+    pub means-ran : (histories : List (List Event)) (o : Outcome) (said : List ℕ) → RanTo scopes (exec_all limits in_memory (steps_of steps) (first_memory start) no_deeds) o said → Means t sets limits histories (ending o) said
     means-ran histories (DoneWith frame) said ran = means-done histories ran.0 said frame ran.1 ran.2
     means-ran histories (Stopped fault) said ran = means-stop histories fault ran.0 said ran.1 ran.2
     means-ran histories (Rejected r) said ran = absurd ran

@@ -5,7 +5,6 @@ ghost use Rattle.std.specs.Prelude.{◌≡◌, ℕ, List, IfOk, IfErr, OnOk, OnE
 ghost use Rattle.std.specs.Io.KnownBytes.{Appends, Keeps};
 ghost use Rattle.dpl_language.specs.Outcome.{no_deeds};
 ghost use Rattle.dpl_language.specs.Statements.{exec_all};
-ghost use Rattle.dpl_tree.specs.Statements.{stmts_of};
 ghost use Rattle.dpl_memory.specs.Memory.{in_memory};
 ghost use Rattle.dpl_standing.specs.Standing.{Outside};
 ghost use Rattle.dpl_loop.specs.Entries.{MayRefuseSome};
@@ -27,7 +26,6 @@ use dpl_nodes::Step;
 use dpl_outcome::{Config, Out, Outcome, Refused, collect, first_frame, tell_fault, write_all};
 use dpl_program::run as run_steps;
 use dpl_scopes::Scopes;
-use dpl_tree::Stmt;
 use std::alloc::Global;
 use std::sync::Wait;
 use std::thread::Threads;
@@ -39,26 +37,24 @@ pub(crate) struct Ended {
     pub(crate) text: Vec<u8>,
 }
 
-// Runs the steps of a program to their end, and writes nothing. The statements are those of the program, and the scopes have the names
-// that they leave.
+// Runs the steps of a program to their end, and writes nothing. The scopes have the names that it leaves.
 fn run<'t, R: Threads + Wait + Sync, G: Gate + Sync>(
     rt: &R,
     alloc: Global,
     steps: &[Step<'t>],
     mut frame: Frame,
     scopes: &Scopes<'_>,
-    stmts: &[Stmt<'_>],
     gate: &G,
 ) -> Result<Ended, Refused>
     ensures ends { IfOk result (λ ended. AreKnownScopes scopes.now → AreLeft scopes.now
-        → RanTo scopes.now (stmts_of stmts.now) (exec_all frame.limits in_memory
+        → RanTo scopes.now (exec_all frame.limits in_memory
         (steps_in Outside steps.now) frame.memory no_deeds) ended.outcome ended.text.items) }
     ensures unwritten { IfErr result (IsUnwritten (MayRefuseSome (G.may_refuse gate.now))) }
 {
     let mut text = Vec::new(alloc);
     match run_steps(rt, steps, &mut frame, gate, &mut text) {
         Ok(()) => {
-            let left = collect(alloc, scopes, stmts, frame)?;
+            let left = collect(alloc, scopes, frame)?;
             let outcome = Outcome::Done(left);
             Ok(Ended { outcome, text })
         }
@@ -106,15 +102,7 @@ pub(crate) fn run_to_end<R: Threads + Wait + Sync, G: Gate + Sync>(
     ensures unwritten { IfErr result (IsUnwritten (MayRefuseSome (G.may_refuse gate.now))) }
 {
     let frame = first_frame(alloc, checked.slots, &checked.words, config)?;
-    run(
-        rt,
-        alloc,
-        checked.steps,
-        frame,
-        &checked.scopes,
-        checked.program.stmts,
-        gate,
-    )
+    run(rt, alloc, checked.steps, frame, &checked.scopes, gate)
 }
 
 /// Runs a program that was checked: what is written, and the outcome, are those of the language's definition, in which a forall is a

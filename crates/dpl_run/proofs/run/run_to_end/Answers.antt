@@ -42,17 +42,16 @@ returns-clause-runs g c =
     let same-memory : f.memory ≡ first_memory start =
     ap (λ (f : Framed). f.memory) c.in_ok-frame.ensures
     ∙ ap (λ ws. first_memory (record { slots = p.slots; cells = 0; texts = []; words = ws; histories = None })) (c.deref.ensures.value ∙ is.given) in
-    let same-stmts = ap (λ q. (program_view q).stmts) c.deref-2.ensures in
     let read : steps_in Outside steps ≡ steps_of steps =
     steps_in-of Outside steps (plan-stands t sets p.slots p.scopes steps is.plan (program-untasked text sets t program) unrefused) in
     if_ok c.run.result
     (λ ended ran.
     let left = subst AreLeft (sym is.plan.behind) (tops-left t.stmts top (program-runs text sets t program) top-left) in
-    let from = subst (λ us. RanTo p.scopes us (exec_all f.limits in_memory (steps_in Outside steps) f.memory no_deeds) ended.outcome ended.text.items) same-stmts (ran is.plan.plain left) in
+    let from = ran is.plan.plain left in
     let there =
-    subst (λ ts. RanTo p.scopes t.stmts (exec_all limits in_memory ts (first_memory start) no_deeds) ended.outcome ended.text.items) read
-    (subst (λ m. RanTo p.scopes t.stmts (exec_all limits in_memory (steps_in Outside steps) m no_deeds) ended.outcome ended.text.items) same-memory
-    (subst (λ l. RanTo p.scopes t.stmts (exec_all l in_memory (steps_in Outside steps) f.memory no_deeds) ended.outcome ended.text.items) same-limits from)) in
+    subst (λ ts. RanTo p.scopes (exec_all limits in_memory ts (first_memory start) no_deeds) ended.outcome ended.text.items) read
+    (subst (λ m. RanTo p.scopes (exec_all limits in_memory (steps_in Outside steps) m no_deeds) ended.outcome ended.text.items) same-memory
+    (subst (λ l. RanTo p.scopes (exec_all l in_memory (steps_in Outside steps) f.memory no_deeds) ended.outcome ended.text.items) same-limits from)) in
     runs-anywhere text sets t program limits ended.outcome ended.text.items
     (λ histories. means-ran t sets p.slots p.scopes steps is.plan (sets-fit t sets unrefused) limits histories ended.outcome ended.text.items there))
     c.run.ensures.ends
