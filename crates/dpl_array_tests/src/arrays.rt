@@ -216,29 +216,28 @@ fn runs_of_a_space(rt: HostRuntime) {
     }
 }
 
-// What an array of squares has at an index when some values were put at the first indices of a row.
-fn expected(at: Index, from: Row, values: &[i64], put: usize) -> Option<i64> {
+// What an array of squares has at an index when these values were put at the first indices of a row.
+fn expected(at: Index, from: Row, put: &[i64]) -> i64 {
     let (_, line, first) = from.first().numbers();
     let (_, i, j) = at.numbers();
-    let distance = j.wrapping_sub(first);
-    let behind = distance
-        .checked_div(from.step())
-        .unwrap_or(-1)
-        .cast_unsigned() as usize;
-    if i == line && distance.checked_rem(from.step()) == Some(0) && behind < put {
-        values.get(behind).copied()
-    } else {
-        Some(j.wrapping_mul(j))
+    let mut place = first;
+    for value in put {
+        if i == line && j == place {
+            return *value;
+        }
+        place = place.wrapping_add(from.step());
     }
+    j.wrapping_mul(j)
 }
 
 // Of some values so many are put side by side at the indices of a row. They stand there then, and beside them still the squares.
 fn puts(rt: &impl Abort, array: &mut DArray<i64>, from: Row, values: &[i64], put: usize) {
     assert_eq!(rt; array.set_run(from, values), put);
+    let values = &values[..put.min(values.len())];
     let mut indices = array.domain().cursor();
     for _ in 0..array.domain().size() {
         let at = indices.next().expect(rt, "an index for each turn");
-        assert!(rt; array.get(at) == expected(at, from, values, put));
+        assert!(rt; array.get(at) == Some(expected(at, from, values)));
     }
 }
 
