@@ -49,7 +49,7 @@ def run(text, setting):
     return seconds, done.stdout
 
 
-print("| seconds of one repetition | " + " | ".join(name for name, _, _ in SETTINGS) + " | block / one | cyclic / one | blocks / one |")
+print("| milliseconds of one repetition | " + " | ".join(name for name, _, _ in SETTINGS) + " | block / one | cyclic / one | blocks / one |")
 print("|---|" + "---|" * (len(SETTINGS) + 3))
 for name, head, body, times, tail in PROGRAMS:
     best = {}
@@ -68,6 +68,6 @@ for name, head, body, times, tail in PROGRAMS:
                 best[key, part] = min(seconds, best.get((key, part), 1e9))
     assert len(told) == 1, (name, told)
     each = [(best[key, "whole"] - best[key, "bare"]) / (1 if goes_round else times) for key, _, goes_round in SETTINGS]
-    print("| %s | " % name + " | ".join("%.5f" % s for s in each) + " |" + "".join(" %.2f |" % (s / each[0]) for s in each[1:]))
+    print("| %s | " % name + " | ".join("%.3f" % (s * 1000) for s in each) + " |" + "".join(" %.2f |" % (s / each[0]) for s in each[1:]))
 PYTHON
 "$work/fills"

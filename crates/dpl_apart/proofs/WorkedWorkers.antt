@@ -1,8 +1,7 @@
 -- Rows of what two workers begin with and leave together: an array over 1..3, of which the one has 1 and 2 and the other 3, and a sum that was 5.
 -- Each turn squares its index into the array, and adds it to the sum.
-use Rattle.std.proofs.Common.{eqb-true, ◌≡◌, ℕ, ◌<◌, ◌==◌, ◌||◌, Bool, true, false, ℤ, pos, List, [], ◌∷◌, Some, None, slice_get, refl, sym, ◌∙◌, subst, arith}
+use Rattle.std.proofs.Common.{eqb-true, ◌≡◌, ℕ, ◌<◌, ◌==◌, ◌||◌, Bool, true, false, ℤ, pos, List, [], ◌∷◌, Some, None, refl, sym, subst, arith}
 use Rattle.std.specs.Prelude.{if◌then◌else◌}
-use Rattle.std.specs.List.{AllByRecursion}
 use Rattle.std.specs.Int.{int_wrap}
 use Rattle.std.proofs.lemmas.Option.{none-some}
 use Rattle.dpl_syntax.specs.declared.place.Place.{Place}

@@ -1,10 +1,10 @@
 -- No two names in sight have one slot: a scope's slots stand behind those of the scopes outside.
 -- Two names with one slot are one name.
-use Rattle.std.proofs.Common.{◌≡◌, ℕ, suc, ◌+◌, ◌<◌, ◌≤◌, Bool, true, false, [], ◌∷◌, length, Option, Some, None, refl, sym, ap, ◌∙◌, subst, arith}
+use Rattle.std.proofs.Common.{◌≡◌, ℕ, suc, ◌+◌, ◌<◌, ◌≤◌, Bool, true, false, [], ◌∷◌, length, Option, Some, None, refl, sym, ap, ◌∙◌, arith}
 use Rattle.std.specs.Prelude.{bytes_eq, if◌then◌else◌}
 use Rattle.std.proofs.lemmas.Slice.Eq.{bytes_eq-Decides}
 use Rattle.dpl_language.specs.Names.{Text}
-use Rattle.dpl_rules.specs.Sights.{Declared, Scope, Scopes}
+use Rattle.dpl_rules.specs.Sights.{Scope, Scopes}
 use Rattle.dpl_scopes.specs.Slots.{count_in, place_in, slot_or, slot_in}
 
 -- the slots of a scope's names

@@ -7,7 +7,6 @@ use Rattle.dpl_syntax.specs.declared.refusal.Breach.{Breach}
 use Rattle.dpl_syntax.specs.declared.refusal.Code.TheVariants.{WrongType, WrongRank}
 use Rattle.dpl_language.specs.Tree.{Placed, AfterComma, ExprTree, Number, TruthWord, Named, LocalesWord, LocaleCount, HereWord, Grouped, DomainLiteral, Prefixed, Reduced, Chain, Postfixed, ItemTree, One, RangeItem, VariablesTree, OneVariable, ManyVariables}
 use Rattle.dpl_language.specs.Names.{Text}
-use Rattle.dpl_language.specs.Phrases.{parts}
 use Rattle.dpl_tree.specs.declared.statement.NextName.{NextName}
 use Rattle.dpl_rules.specs.Types.{ValueType, Scalar, Range, Domain, Array, Promoted, Tuple, Locale, AllLocales, Cell, an_int, has, is_int, is_range, is_domain}
 use Rattle.dpl_rules.specs.Verdicts.{owed, breach}

@@ -1,9 +1,9 @@
 -- Folds from a place on, by the value at that place; and walks that end early.
-use Rattle.std.proofs.Common.{◌≡◌, ℕ, ℤ, ◌+◌, List, drop, slice_get, Some, Result, Ok, Err, refl, sym, ap, ◌∙◌, subst}
+use Rattle.std.proofs.Common.{◌≡◌, ℕ, ◌+◌, List, drop, slice_get, Some, Result, Ok, Err, sym, ap, ◌∙◌, subst}
 use Rattle.dpl_range.proofs.Lists.{drop-slice_get}
 use Rattle.dpl_language.specs.Tree.{Op}
 use Rattle.dpl_language.specs.Values.{Value, Index, Fault}
-use Rattle.dpl_language.specs.Arithmetic.{combined, unit_of}
+use Rattle.dpl_language.specs.Arithmetic.{combined}
 use Rattle.dpl_language.specs.Outcome.{with_ok}
 use Rattle.dpl_sets.specs.TextRanges.{TextRange}
 use Rattle.dpl_language.specs.Ranges.{indices_in}

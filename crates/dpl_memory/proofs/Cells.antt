@@ -1,16 +1,15 @@
 -- The cells of a memory: those in sight are those of the store, from the first declared on, and a cell's number is how many are before it.
 -- And what an operation or a history changes: cells alone.
-use Rattle.std.proofs.Common.{◌≡◌, ◌≢◌, ℕ, zero, suc, ◌<◌, ◌+◌, ℤ, Bool, true, false, List, [], ◌∷◌, ◌++◌, refl, sym, ap, ◌∙◌, subst, Some, None, Option, length, map, drop, arith}
+use Rattle.std.proofs.Common.{◌≡◌, ◌≢◌, ℕ, suc, ◌<◌, Bool, true, false, List, [], ◌∷◌, ◌++◌, refl, sym, ap, ◌∙◌, subst, Some, Option, length, drop}
 use Rattle.std.specs.Prelude.{◌==◌, ◌||◌, if◌then◌else◌, bytes_eq, get_or, set}
 use Rattle.std.proofs.lemmas.Bool.Decides.{Decides-eqb}
 use Rattle.std.proofs.lemmas.List.{get_or-set_same, get_or-set_other, length-set, map-append, append-nil, append_assoc}
 use Rattle.dpl_history.specs.declared.cell.CellState.{CellState}
 use Rattle.dpl_history.specs.declared.cell.CellState.TheVariants.{Empty}
-use Rattle.dpl_history.specs.declared.history.Event.{Event}
 use Rattle.dpl_language.specs.Tree.{Kind}
-use Rattle.dpl_language.specs.Environment.{Content, CellOf}
+use Rattle.dpl_language.specs.Environment.{CellOf}
 use Rattle.dpl_language.specs.Names.{Text}
-use Rattle.dpl_agreement.proofs.Slots.{Bound as SlotBound, Sight as SlotSight, Mark, Name, slot_of, IsFresh, IsApart, set_slot, same_slot, other_slot}
+use Rattle.dpl_agreement.proofs.Slots.{Bound as SlotBound, Sight as SlotSight, Mark, Name, slot_of, IsFresh, IsApart, same_slot, other_slot}
 use Rattle.dpl_agreement.proofs.SlotCells.{cell_of, with_state, cells_of as slots_cells, number_of, with_states}
 use Rattle.dpl_memory.specs.Memory.{VariableKind, PlainKind, DomainKind, TupleKind, ArrayKind, CellKind, Coming, Memory, value_in, cell_at, with_cell, cells_at, with_cells, is_among}
 use Rattle.dpl_memory.specs.Resolved.{Sighted, Sight, slot_if_cell, cells_of, cells_in, before, IsCellOf, HasShape, Shape, content_in, HasSlots}

@@ -1,7 +1,7 @@
 -- Cells, the number of `here`, and what is to come, in a memory.
 -- Rows: an operation outside tasks and in one, the cells at a coforall and what its history leaves of them, and another locale; which cells
 -- are in sight; sample programs, which write from a memory what they mean; and right sides that read a cell, and fit or don't.
-use Rattle.std.proofs.Common.{◌≡◌, ℕ, List, [], ◌∷◌, pos, true, refl, subst, ◌∙◌, rules, Some, None}
+use Rattle.std.proofs.Common.{◌≡◌, ℕ, List, [], ◌∷◌, pos, true, refl, subst, ◌∙◌, rules, Some}
 use Rattle.std.specs.Prelude.{codes, bytes_eq, if◌then◌else◌}
 use Rattle.std.specs.Int.{int_wrap}
 use Rattle.std.specs.Fmt.{digits}
@@ -24,7 +24,7 @@ use Rattle.dpl_language.proofs.TasksSamples.{here_again, locale_tasks, no_reply_
 use Rattle.dpl_agreement.specs.Renamed.{renamed_program}
 use Rattle.dpl_agreement.specs.Scopes.{PlainForm, CellForm, fits_all}
 use Rattle.dpl_agreement.proofs.ProgramsAlike.{run_from}
-use Rattle.dpl_words.specs.Words.{IntLeaf, TruthLeaf, LocaleLeaf}
+use Rattle.dpl_words.specs.Words.{IntLeaf, LocaleLeaf}
 use Rattle.dpl_memory.specs.Memory.{VariableKind, PlainKind, ArrayKind, CellKind, Variable, variable, int_leaf, truth_leaf, Memory, with_cell, in_memory}
 use Rattle.dpl_memory.specs.Resolved.{Bound, Sighted, Sight, Seen, first_seen, sighted, no_shape, without_frame, cells_in, before as cells_before, IsElement, IsOf, GivesReply, Suits, SuitsElement, Start, resolving, first_memory}
 use Rattle.dpl_memory.proofs.MemoryAgrees.{written-memory}

@@ -29,7 +29,7 @@ use Rattle.dpl_language.specs.Names.{Text, Opened, Declared, Store, State, paire
 use Rattle.dpl_language.specs.Program.{first_state, meaning, top_level, own_entry, own_frame, left, written}
 use Rattle.dpl_agreement.specs.Renamed.{renamed_content, renamed_item, renamed_intents, renamed_stmts, renamed_program}
 use Rattle.dpl_agreement.specs.Scopes.{Form, PlainForm, ArrayForm, CellForm, form_of, IsLawful, after_all, fits_all}
-use Rattle.dpl_agreement.specs.Agreement.{AnswersAlike, MayRead, MayBe, WasDomain, Simulates, EndsAlike}
+use Rattle.dpl_agreement.specs.Agreement.{AnswersAlike, MayRead, WasDomain, Simulates, EndsAlike}
 use Rattle.dpl_agreement.proofs.Slots.{Bound as SlotBound, Name, IsFresh, set_slot, spelled, store_at, store_at-set, slot_of, slot_of-apart, look_up-slot, change_in-slot, declared-slot, without_innermost-store_at}
 use Rattle.dpl_agreement.proofs.SlotRoots.{Roots, set_root, roots_at, root-slot, declared-root, deal-slot, left-roots}
 use Rattle.dpl_agreement.proofs.SlotDomains.{OverNamed, OverResolves, Overs, Overs-declare, Overs-without_frame, redomain_in-slots, arrays_over-slots}
@@ -44,8 +44,8 @@ use Rattle.dpl_words.specs.Words.{IntLeaf, TruthLeaf, RangeLeaf, LocaleLeaf, no_
 use Rattle.dpl_words.proofs.OfKind.{given-kind}
 use Rattle.dpl_memory.specs.Memory.{VariableKind, PlainKind, DomainKind, TupleKind, ArrayKind, CellKind, Held, whole_held, Memory, is_among, redomained_from, no_domain, no_tuple, no_array, value_in, with_value_in, cell_at, with_cell, cells_at, with_cells, settled_in, with_replies, effect_in, called_by, array_at, held_with, Coming, element_in as element_in_memory, with_element_in, declared_array, root_in, with_root, undealt, renewed, anew, element_as, intents_by_slot, redomained_in, is_some_array, intended, given_in, in_memory}
 use Rattle.dpl_memory.specs.Resolved.{Bound, Sighted, Sight, known_in, innermost, text_of, variable_of, written_over, if_domain, domain_among, over_of, sighted, arrays_over, names_in_order, left_in, entry_in, declared_in, frame_in, own_store, store_in, content_in, IsUnused, AreUnused, bind, without_frame, Seen, first_seen, cells_in, before, HasCells, AreKnown, CallResolves, IsCellOf, MaySpan, IsOf, IsWhole, HasShape, MayHold, Shape, no_shape, IsShaped, HasNoArray, GivesOnce, SuitsKind, OrReplies, IsElement, ArraysResolve, IsNew, OverResolves as OverIsFound, Holds, kind_takes, KindCombines, IntentResolves, Resolves, MayDeclare, IsGivenAs, Start, resolving, first_memory, HasSlots, AreToCome, StandsFor}
-use Rattle.dpl_memory.proofs.Roots.{IsAsFar, as_far, far-set_in, far-element, far-array, far-redomained, far-undealt, roots-set_in, roots-element, roots-array, roots-redomained, content_in-root, slots-root, root_in-other, root_in-same, content_in-undealt, slots-undealt, words-undealt, value_in-undealt, whole-undealt, root_in-undealt_here, root_in-undealt_other, roots_at-each, set_root-each, roots_at-unused}
-use Rattle.dpl_agreement.proofs.SlotCells.{state_of, with_state, cells_of as slots_cells, with_states, state_in-spelled, set_cell-spelled, store_cells-slots, cell_number-slots, with_cells-slots}
+use Rattle.dpl_memory.proofs.Roots.{IsAsFar, far-set_in, far-element, far-array, far-redomained, far-undealt, roots-set_in, roots-element, roots-array, roots-redomained, content_in-root, slots-root, root_in-other, root_in-same, content_in-undealt, slots-undealt, words-undealt, value_in-undealt, whole-undealt, root_in-undealt_here, root_in-undealt_other, roots_at-each, set_root-each, roots_at-unused}
+use Rattle.dpl_agreement.proofs.SlotCells.{state_of, with_state, with_states, state_in-spelled, set_cell-spelled, store_cells-slots, cell_number-slots, with_cells-slots}
 use Rattle.dpl_memory.proofs.Cells.{cell_slots, cell_slots-in_slots, cells-slots, number-slots, cell-put, cells-other, cells-value, cell-shape, cells-slotted, length-with_cells, replaced, are_within}
 use Rattle.dpl_memory.proofs.Elements.{element_at-words, with_element-words, elements-kept, assigned-element}
 use Rattle.dpl_memory.proofs.OfKind.{content_in-set_same, content_in-set_other, content_in-array_same, content_in-array_other, content_in-moved, slots-moved, slots-set, slots-array, intents-set_in, sets-set_in, value_in-array, value_in-plain, value_in-domain, assigned-of}

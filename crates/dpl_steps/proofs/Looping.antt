@@ -12,15 +12,15 @@ use Rattle.dpl_sets.specs.Indices.{indices}
 use Rattle.dpl_array.specs.Elements.{Row, along, behind}
 use Rattle.dpl_array.proofs.InRows.{later-member}
 use mathlib.Core.Path.{fun_ext}
-use Rattle.dpl_language.specs.Tree.{AfterComma, Op, ExprTree, ItemTree, VariablesTree, OneVariable, ManyVariables, IntentTree, If, While, For, Forall, Else, Stmts}
-use Rattle.dpl_language.specs.Values.{Value, Truth, truth, Range, Domain, Index, Fault, fault, Budget}
+use Rattle.dpl_language.specs.Tree.{AfterComma, Op, ExprTree, ItemTree, VariablesTree, OneVariable, ManyVariables, IntentTree, While, For, Forall, Stmts}
+use Rattle.dpl_language.specs.Values.{Value, truth, Range, Domain, Index, Fault, fault, Budget}
 use Rattle.dpl_language.specs.Ranges.{indices_in, size_in, loop_ranges}
-use Rattle.dpl_language.specs.Outcome.{Deeds, Outcome, Done, Stop, Waits, Run, with_ok, with_value, then_do, choose, in_order, repeated}
+use Rattle.dpl_language.specs.Outcome.{Deeds, Outcome, Done, Stop, Waits, Run, with_ok, with_value, then_do, in_order, repeated}
 use Rattle.dpl_language.specs.Environment.{Limits}
 use Rattle.dpl_language.specs.Phrases.{reduce_intents, intents_of}
 use Rattle.dpl_language.specs.Expressions.{value_of, item_of}
 use Rattle.dpl_language.specs.Loops.{within_budget, named_turn, scoped, bound_to, turn_of}
-use Rattle.dpl_language.specs.Statements.{holds, exec, exec_all, exec_else}
+use Rattle.dpl_language.specs.Statements.{holds, exec, exec_all}
 use Rattle.dpl_lowered.specs.Shapes.{nowhere}
 use Rattle.dpl_lowered.specs.LoweredStatements.{behind_comma, with_intents}
 use Rattle.dpl_memory.specs.Memory.{Variable, Memory, in_memory}

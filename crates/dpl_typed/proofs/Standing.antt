@@ -1,6 +1,6 @@
 -- What a typed expression stands for, in other words: as another tree that is the same, as an item and as an expression, and once.
 -- The brackets round a range with bounds come and go. And what follows of what a call gave, where it gave something.
-use Rattle.std.proofs.Common.{◌≡◌, Option, Some, None, Result, Ok, Err, refl, sym, ap, ◌∙◌}
+use Rattle.std.proofs.Common.{◌≡◌, Option, Some, None, Result, Ok, Err, refl, ap, ◌∙◌}
 use Rattle.std.specs.Prelude.{IfOk, OnOk}
 use Rattle.dpl_language.specs.Tree.{ExprTree, ItemTree}
 use Rattle.dpl_lowered.specs.Shapes.{as_expr, as_item}

@@ -25,7 +25,7 @@ use Rattle.dpl_values.specs.Reductions.{EachInInts, EachInTruths, EachInRange, E
 use Rattle.dpl_elements.proofs.Dealing.{ends-wider, some-of-whole}
 use Rattle.dpl_steps.proofs.Refusing.{some-of-forall, some-of-array}
 use Rattle.dpl_elements.proofs.Changing.{gives-halts, exec-declared, exec-assigned}
-use Rattle.dpl_steps.proofs.Looping.{exec_all-rest, exec_all-whole, in_order-done, in_order-halts, for-domain, in_turn-done, in_turn-halts, for-turns, repeated-fault, repeated-ends, repeated-step, holds-fault, exec-while}
+use Rattle.dpl_steps.proofs.Looping.{in_order-done, in_order-halts, for-domain, in_turn-done, in_turn-halts, for-turns, repeated-fault, repeated-ends, repeated-step, holds-fault, exec-while}
 use Rattle.dpl_elements.proofs.Branching.{scoped-same, holds-value, if-then}
 use Rattle.dpl_readings.proofs.Views.{for_each_in, forall_in, block_in, if_in, while_in, for_in, forall_line_in}
 use Rattle.dpl_steps.proofs.+run.Goals as goal

@@ -1,7 +1,6 @@
 -- What is told apart is what the declaration owes; where nothing was told, the step stands for it.
 -- The name is new, and has the type that was found.
-use Rattle.std.proofs.Common.{not, ◌++◌, ◌≡◌, Option, None, sym, ap, ◌∙◌, append_assoc}
-use Rattle.dpl_syntax.specs.declared.refusal.Breach.{Breach}
+use Rattle.std.proofs.Common.{not, ◌++◌, None, sym, ap, ◌∙◌, append_assoc}
 use Rattle.dpl_syntax.specs.declared.refusal.Code.TheVariants.{NameTwice}
 use Rattle.dpl_tree.specs.Declarations.{declare_view}
 use Rattle.dpl_language.specs.Declarations.{type_of as written_type}

@@ -2,7 +2,7 @@
 use Rattle.std.proofs.Common.{◌≡◌, Some, sym, ap, ◌∙◌}
 use Rattle.dpl_tree.specs.View.{name_view}
 use Rattle.dpl_language.specs.Tree.{Named}
-use Rattle.dpl_rules.specs.Sights.{Declared, type_declared}
+use Rattle.dpl_rules.specs.Sights.{type_declared}
 use Rattle.dpl_scopes.specs.Types.{type_view, of_type}
 use Rattle.dpl_typed.specs.Leaves.{value_kind, kind_by, leaf_view}
 use Rattle.dpl_typed.specs.Lowered.{leaves_of}
