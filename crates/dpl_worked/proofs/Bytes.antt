@@ -45,9 +45,9 @@ unfolding is_utf8 chars lib.Utf8.encode
 cut_off = last_byte (39 ∷ 195 ∷ []) 1 refl (omega arith) refl refl
 
 -- it is told before a bad character that stands before it
-before_all_else : LexRefuses (codes "?" ++ 255 ∷ []) (refusal_at NotText (place 1 2))
+before_all_else : LexRefuses (codes "@" ++ 255 ∷ []) (refusal_at NotText (place 1 2))
 unfolding is_utf8 chars lib.Utf8.encode
-before_all_else = last_byte (codes "?" ++ 255 ∷ []) 1 refl (omega arith) refl refl
+before_all_else = last_byte (codes "@" ++ 255 ∷ []) 1 refl (omega arith) refl refl
 
 -- ---- L1 of a text that is too long, whatever its bytes
 
