@@ -1,7 +1,7 @@
 -- The arrays over a domain, as the scopes are gone through: what is declared stands behind those of its scope.
 -- Before each mark stand the scopes that the marks before it leave open.
 use Rattle.std.proofs.Common.{◌≡◌, ℕ, ◌+◌, ◌<◌, ◌≤◌, Bool, true, false, List, [], ◌∷◌, ◌++◌, length, get_or, take, drop, reverse, is_some, Option, Some, None, refl, sym, ap, ◌∙◌, subst, append-nil, length-append, arith}
-use Rattle.std.specs.Prelude.{◌==◌, if◌then◌else◌, insert, option_map, unwrap_or}
+use Rattle.std.specs.Prelude.{◌==◌, if◌then◌else◌, insert, option_map}
 use Rattle.std.proofs.lemmas.List.{reverse-append, take_more, take-append-drop}
 use Rattle.std.proofs.lemmas.List.Edits.{insert-append_left, insert_end}
 use Rattle.dpl_rules.specs.Sights.{Declared, Scopes, enter, add}
@@ -21,10 +21,9 @@ pub some_if : (b : Bool) (k : VariableKind) → is_some (kind_if b k) ≡ b
 some_if true k = refl
 some_if false k = refl
 
-pub leaf_slot : (o : Option VariableKind) (slot : Option ℕ) → (leaf_by o slot).slot ≡ (if is_some o then unwrap_or slot 0 else 0)
+pub leaf_slot : (o : Option VariableKind) (slot : ℕ) → (leaf_by o (Some slot)).slot ≡ (if is_some o then slot else 0)
 leaf_slot None slot = refl
-leaf_slot (Some k) None = refl
-leaf_slot (Some k) (Some n) = refl
+leaf_slot (Some k) slot = refl
 
 pub over_some : (slot other : ℕ) (o : Option Bound) → Some other ≡ option_map slot_of_bound o → is_over slot o ≡ (slot == other)
 over_some slot other None e = cc
@@ -121,7 +120,7 @@ take-mark ms i past h = ap reverse (take_more ms i past h) ∙ reverse-append (t
 kept-behind : (ls ms : List Mark) → AreKept (ls ++ ms) → AreKept ms
 kept-behind [] ms h = h
 kept-behind (Opens ∷ ls) ms h = kept-behind ls ms h
-kept-behind (Declares e ∷ ls) ms h = kept-behind ls ms h.2
+kept-behind (Declares e ∷ ls) ms h = kept-behind ls ms h.3
 
 -- what is declared is as deep as the scopes before it
 kept-at : (ms : List Mark) (i : ℕ) (past : Mark) → i < length ms → AreKept (reverse ms) → AreKept (get_or ms i past ∷ reverse (take i ms))

@@ -7,3 +7,4 @@ pub mod Judged
 pub mod Indexing
 pub mod Steps
 pub mod Domains
+pub mod Parts

@@ -8,11 +8,10 @@ use Rattle.dpl_language.specs.Phrases.{method_read, post_read, posts_read, bare_
 use Rattle.dpl_syntax.specs.declared.place.Place.{Place}
 use Rattle.dpl_tree.specs.declared.expression.Post.{Post as PostNode}
 use Rattle.dpl_tree.specs.View.{posts_of}
-use Rattle.dpl_rules.specs.Types.{ValueType, Scalar, has}
+use Rattle.dpl_rules.specs.Types.{ValueType, Scalar, has, is_promoted}
 use Rattle.dpl_rules.specs.Verdicts.{type_by, with_type}
 use Rattle.dpl_rules.specs.Places.{last_of}
 use Rattle.dpl_rules.specs.Sights.{Scopes}
-use Rattle.dpl_rules.specs.Deeds.{is_promoted}
 use Rattle.dpl_rules.specs.Expressions.{bare_locales, locales_or, type_of, item_type, posts_type, method_verdict, kind_read, read_or_type, side_part}
 use Rattle.dpl_typed.specs.Leaves.{IsFound}
 use Rattle.dpl_typed.specs.Where.{WhereSimpleItem}

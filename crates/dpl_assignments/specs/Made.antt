@@ -3,10 +3,14 @@
 use Rattle.std.specs.Prelude.{◌≡◌, ℕ, ◌||◌, false, Option, Some, None}
 use Rattle.std.specs.Borrow.{Bor}
 use Rattle.dpl_syntax.specs.declared.place.Place.{Place}
-use Rattle.dpl_language.specs.Tree.{Placed, Assign, Kind, IntKind, BoolKind, ExprTree, Exprs, ItemTree, One, Whole, Element, Square, StmtTree, Assigned}
+use Rattle.dpl_syntax.specs.declared.refusal.Breach.{Breach}
+use Rattle.dpl_language.specs.Tree.{Placed, Assign, Kind, IntKind, BoolKind, ExprTree, Exprs, ItemTree, One, TargetTree, Whole, Element, Square, StmtTree, Assigned}
 use Rattle.dpl_language.specs.Arithmetic.{assign_divides}
+use Rattle.dpl_language.specs.Names.{Text}
 use Rattle.dpl_tree.specs.declared.statement.Element.{Element as ElementNode}
-use Rattle.dpl_tree.specs.View.{exprs_view}
+use Rattle.dpl_tree.specs.declared.statement.Assignment.{Assignment}
+use Rattle.dpl_tree.specs.Statements.{sign_view}
+use Rattle.dpl_tree.specs.View.{exprs_view, item_view}
 use Rattle.dpl_rules.specs.Types.{Over, fits_array}
 use Rattle.dpl_rules.specs.Sights.{Scopes}
 use Rattle.dpl_lowered.specs.Known.{may_be_array, may_be_whole}
@@ -18,13 +22,22 @@ use Rattle.dpl_nodes.specs.declared.step.ArrayName.{ArrayName}
 use Rattle.dpl_nodes.specs.declared.tree.PromotedInt.{PromotedInt}
 use Rattle.dpl_nodes.specs.declared.tree.PromotedTruth.{PromotedTruth}
 use Rattle.dpl_nodes.specs.Typed.{array_named, promoted_int, promoted_truth, index_exprs}
-use Rattle.dpl_nodes.specs.Steps.{placed_leaf, array_leaf}
+use Rattle.dpl_nodes.specs.declared.step.Step.{Step}
+use Rattle.dpl_nodes.specs.Steps.{placed_leaf, array_leaf, step_view}
 use Rattle.dpl_typed.specs.declared.typed.Typed.{Typed}
 use Rattle.dpl_typed.specs.Leaves.{leaf_in}
 use Rattle.dpl_typed.specs.Lowered.{exprs_leaves}
 use Rattle.dpl_typed.specs.Typed.{type_of_typed, typed_item}
 use Rattle.dpl_bound.specs.Bounds.{with_arrays}
+use Rattle.dpl_bound.specs.Run.{stmt_leaves}
+use Rattle.dpl_assignments.specs.Plain.{IsPlain}
 use Rattle.dpl_assignments.specs.declared.element.Indexed.{Indexed}
+
+-- a step stands for an assignment of a form that runs, where nothing was told
+abbrev pub MakesAssigned : Scopes → TargetTree Text → Assignment → Option Breach → Step → Type 0
+MakesAssigned ss target written told step =
+    told ≡ None → IsPlain ss target (sign_view written.sign) (item_view written.value)
+    → stmt_leaves ss (Assigned target (sign_view written.sign) (item_view written.value) written.semicolon) ≡ step_view step
 
 -- an assignment to a name, by its kind and its slot, with its place where a fault tells it, and with the arrays that change with it
 abbrev pub given_to : Scopes → Place → VariableKind → ℕ → Assign → Place → (Times → ItemTree Variable) → StmtTree Variable

@@ -2,7 +2,7 @@
 -- Each is a part of a rule of dpl_rules.
 use Rattle.std.specs.Prelude.{◌≡◌, Bool, false, List, ◌++◌, Option, option_map}
 use Rattle.dpl_syntax.specs.declared.refusal.Breach.{Breach}
-use Rattle.dpl_language.specs.Tree.{Placed, AssignTree, ItemTree, TargetTree, Element}
+use Rattle.dpl_language.specs.Tree.{Placed, AssignTree, ItemTree, TargetTree, Whole, Element, Assigned}
 use Rattle.dpl_language.specs.Names.{Text}
 use Rattle.dpl_tree.specs.declared.statement.Element.{Element as ElementNode}
 use Rattle.dpl_tree.specs.declared.statement.Assignment.{Assignment as AssignmentNode}
@@ -14,6 +14,9 @@ use Rattle.dpl_rules.specs.Verdicts.{Verdict, type_by, broken_by, with_type}
 use Rattle.dpl_rules.specs.Sights.{Scopes, lookup, type_declared, Reducing, Sight}
 use Rattle.dpl_rules.specs.Operators.{round_verdict}
 use Rattle.dpl_rules.specs.Expressions.{name_verdict, expr_parts, exprs_breaches, side_part, side_breaches}
+use Rattle.dpl_rules.specs.Deeds.{Deed}
+use Rattle.dpl_rules.specs.Doings.{stmt_deeds}
+use Rattle.dpl_rules.specs.Bodies.{promoted_breaches}
 use Rattle.dpl_rules.specs.Assignments.{written_name, fitting_target, may_reduce_in, assignment_breaches}
 use Rattle.dpl_assignments.specs.declared.element.Indexed.{Indexed}
 
@@ -44,6 +47,7 @@ abbrev pub whole_told : Scopes → Option Reducing → Placed Text → AssignTre
 whole_told scopes forall x sign item =
     written_name x.at (lookup scopes x.name) ++ side_breaches scopes item
     ++ fitting_target sign (may_reduce_in forall (lookup scopes x.name)) (side_part scopes item) (type_declared (lookup scopes x.name))
+    ++ promoted_breaches scopes (Whole x) item
 
 abbrev pub element_told : Scopes → ElementNode → AssignTree → ItemTree Text → List Breach
 element_told scopes e sign item =
@@ -53,4 +57,9 @@ element_told scopes e sign item =
 -- the first of a breach that was told before and an assignment's, in a task or not
 abbrev pub AssignmentTold : Scopes → Option Reducing → AssignmentNode → Option Breach → Option Breach → Type 0
 AssignmentTold scopes forall a old new =
-    (in_task : Bool) → new ≡ least_from old (assignment_breaches (within scopes forall in_task) (target_view a.target) (sign_view a.sign) (item_view a.value))
+    (in_task : Bool) → new ≡ least_from old (assignment_breaches (within scopes forall in_task) (target_view a.target) (sign_view a.sign) (item_view a.value)
+    ++ promoted_breaches scopes (target_view a.target) (item_view a.value))
+
+-- what an assignment does
+abbrev pub assigned_deeds : Scopes → TargetTree Text → AssignmentNode → List Deed
+assigned_deeds scopes target a = stmt_deeds scopes (Assigned target (sign_view a.sign) (item_view a.value) a.semicolon)

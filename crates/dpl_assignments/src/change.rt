@@ -1,7 +1,7 @@
 // Assignments to names: an int, a truth value, a domain or a whole array is given a value of its kind.
 // What its type doesn't take is no step: a rule refuses it, and `Step::Nothing` stands for it.
 
-ghost use Rattle.std.specs.Prelude.{◌≡◌, ℕ, true, Bool, IfOk, Some};
+ghost use Rattle.std.specs.Prelude.{◌≡◌, ℕ, true, Bool, IfOk, Some, option_map};
 ghost use Rattle.dpl_language.specs.Arithmetic.{assign_divides};
 ghost use Rattle.dpl_language.specs.Tree.{BoolKind, Set, One};
 ghost use Rattle.dpl_lowered.specs.LoweredExpressions.{Once};
@@ -10,9 +10,10 @@ ghost use Rattle.dpl_memory.specs.Memory.{VariableKind, DomainKind, int_leaf, tr
 ghost use Rattle.dpl_nodes.specs.Spots.{IsNear};
 ghost use Rattle.dpl_nodes.specs.Steps.{step_view, assigned_to, scalar_leaf};
 ghost use Rattle.dpl_nodes.specs.Typed.{int_view, truth_view, domain_view};
+ghost use Rattle.dpl_rules.specs.Sights.{type_declared};
 ghost use Rattle.dpl_rules.specs.Types.{ValueType as TypeOf, is_scalar, is_domain_of};
-ghost use Rattle.dpl_scopes.specs.Slots.{slot_in};
-ghost use Rattle.dpl_scopes.specs.Types.{type_view, of_type};
+ghost use Rattle.dpl_scopes.specs.Types.{type_view};
+ghost use Rattle.dpl_scopes.specs.View.{declared_view};
 ghost use Rattle.dpl_typed.specs.declared.typed.Typed.{Typed as TypedNode};
 ghost use Rattle.dpl_typed.specs.Leaves.{value_kind};
 ghost use Rattle.dpl_typed.specs.Typed.{type_of_typed, typed_item};
@@ -23,7 +24,7 @@ use crate::overs::arrays_over;
 use crate::whole::{array, array_name};
 use dpl_nodes::step::DomainName;
 use dpl_nodes::{BoolExpr, DomainExpr, IntDeed, IntExpr, Step, TruthDeed, TruthTarget};
-use dpl_scopes::{Scopes, ValueType};
+use dpl_scopes::{Declared, Scopes, ValueType};
 use dpl_syntax::Place;
 use dpl_tree::{Arena, Assign, AssignSign, Name, ScalarKind};
 use dpl_typed::Typed;
@@ -131,8 +132,9 @@ fn domain<'t>(
     slot: usize,
     value: Typed<'t>,
 ) -> Result<Step<'t>, AllocError>
-    ensures { IfOk result (λ s. (rank : ℕ) (may_stride : Bool) → is_domain_of rank may_stride (type_of_typed value.entry) ≡ true → domain_by sign.op ≡ true
-        → IsNear at → step_view s ≡ given_to scopes.now at DomainKind slot sign.op sign.at (λ m. typed_item m value.entry)) }
+    ensures { IfOk result (λ s. (rank : ℕ) (may_stride : Bool)
+        → is_domain_of rank may_stride (type_of_typed value.entry) ≡ true → domain_by sign.op ≡ true → IsNear at
+        → step_view s ≡ given_to scopes.now at DomainKind slot sign.op sign.at (λ m. typed_item m value.entry)) }
 {
     match value {
         Typed::Domain { node, .. } => match sign.op {
@@ -180,7 +182,7 @@ fn given<'t>(
     }
 }
 
-/// A name is given a value, where both have types.
+/// A name is given a value, where what declares the name and the value have types.
 ///
 /// # Errors
 /// Out of memory.
@@ -189,21 +191,22 @@ pub(crate) fn given_to_name<'t>(
     scopes: &Scopes<'_>,
     name: &Name<'_>,
     sign: AssignSign,
-    target: Option<ValueType<'_>>,
+    declared: Option<Declared<'_>>,
     value: Option<Typed<'t>>,
 ) -> Result<Step<'t>, AllocError>
-    ensures { IfOk result (λ s. (t : TypeOf) (u : TypedNode) (k : VariableKind) (slot : ℕ) → of_type target.entry ≡ Some t → value.entry ≡ Some u
-        → value_kind t ≡ Some k → slot_in scopes.now name.now.text.now ≡ Some slot → Takes sign.op t (type_of_typed u) → IsNear sign.at → IsNear name.now.at
+    ensures { IfOk result (λ s. (t : TypeOf) (u : TypedNode) (k : VariableKind) (slot : ℕ)
+        → type_declared (option_map declared_view declared.entry) ≡ Some t → value.entry ≡ Some u → value_kind t ≡ Some k
+        → option_map (λ d. d.slot) declared.entry ≡ Some slot → Takes sign.op t (type_of_typed u) → IsNear sign.at → IsNear name.now.at
         → step_view s ≡ given_to scopes.now name.now.at k slot sign.op sign.at (λ m. typed_item m u)) }
 {
-    let Some(target) = target else {
+    let Some(declared) = declared else {
+        return Ok(Step::Nothing);
+    };
+    let Some(target) = declared.value_type else {
         return Ok(Step::Nothing);
     };
     let Some(value) = value else {
         return Ok(Step::Nothing);
     };
-    let Some(slot) = scopes.slot(name.text) else {
-        return Ok(Step::Nothing);
-    };
-    given(arena, scopes, name, sign, slot, target, value)
+    given(arena, scopes, name, sign, declared.slot, target, value)
 }

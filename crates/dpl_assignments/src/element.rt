@@ -1,20 +1,23 @@
 // Assignments to elements of arrays: which element is written, and what it is given.
 // Only an array has elements; an index outside it is told at its name.
 
-ghost use Rattle.std.specs.Prelude.{◌≡◌, ◌<◌, ◌++◌, true, IfOk, IfSome, Some, length, map};
+ghost use Rattle.std.specs.Prelude.{◌≡◌, ◌<◌, ◌++◌, true, IfOk, OnOk, IfSome, Some, length, map};
 ghost use Rattle.dpl_language.specs.Tree.{BoolKind, IntKind, ExprTree, One, Exprs};
 ghost use Rattle.dpl_lowered.specs.LoweredExpressions.{Times, Once};
 ghost use Rattle.dpl_memory.specs.Memory.{Variable};
 ghost use Rattle.dpl_nodes.specs.Spots.{IsNear};
 ghost use Rattle.dpl_nodes.specs.Steps.{step_view, array_leaf};
 ghost use Rattle.dpl_nodes.specs.Typed.{int_view, truth_view, index_exprs};
+ghost use Rattle.dpl_rules.specs.Deeds.{exprs_deeds};
 ghost use Rattle.dpl_rules.specs.Expressions.{exprs_breaches};
 ghost use Rattle.dpl_rules.specs.Operators.{round_verdict, element_verdict as element_of};
 ghost use Rattle.dpl_rules.specs.Types.{is_scalar};
 ghost use Rattle.dpl_rules.specs.Verdicts.{type_by, broken_by, with_type};
 ghost use Rattle.dpl_scopes.specs.Types.{of_type};
+ghost use Rattle.dpl_scopes.specs.View.{IsSighted};
 ghost use Rattle.dpl_tree.specs.View.{exprs_view};
 ghost use Rattle.dpl_typed.specs.declared.typed.Typed.{Typed as TypedNode};
+ghost use Rattle.dpl_deeds.specs.View.{Adds};
 ghost use Rattle.dpl_typed.specs.Leaves.{IsFound};
 ghost use Rattle.dpl_typed.specs.Stands.{StandsFor, AreArguments};
 ghost use Rattle.dpl_typed.specs.Typed.{type_of_typed, types_of, part_view, typed_item, is_rank};
@@ -27,9 +30,10 @@ ghost use Rattle.dpl_assignments.specs.Told.{element_verdict, indexed_types, Tel
 
 use dpl_brackets::coordinates::index_of;
 use dpl_brackets::index::is_index;
+use dpl_deeds::Deed;
 use dpl_elaborator::expression::exprs;
 use dpl_nodes::{ArrayName, BoolExpr, IndexExpr, IntExpr, Step, TruthTarget};
-use dpl_scopes::{Scopes, ValueType};
+use dpl_scopes::{Declared, Scopes, ValueType};
 use dpl_syntax::{Breach, Code, Place};
 use dpl_tree::{Arena, Assign, AssignSign, Element, ScalarKind};
 use dpl_typed::name::named;
@@ -138,27 +142,31 @@ fn of_value<'t>(
     }
 }
 
-/// An element that is written, if it is one.
+/// An element that is written, by the declaration of its array's name, if it is one.
 ///
 /// # Errors
-/// Out of memory; of what was told then nothing is said.
+/// Out of memory; of what was told and done then nothing is said.
 #[tactic(auto, using(dpl_types::proofs::Breaches::least_from_append))]
 pub(crate) fn element<'t>(
     arena: Arena<'t>,
     scopes: &Scopes<'t>,
     written: &Element<'_>,
+    declared: Option<Declared<'t>>,
+    deeds: &mut Vec<Deed<'t>>,
     first: &mut Option<Breach>,
 ) -> Result<Option<Indexed<'t>>, AllocError>
-    ensures told { IfOk result (λ r. TellsElement (type_by (element_verdict scopes.now written.now))
+    ensures told { IfOk result (λ r. IsSighted scopes.now written.now.name.text.now declared.entry
+        → TellsElement (type_by (element_verdict scopes.now written.now))
         (exprs_breaches scopes.now (exprs_view written.now.exprs) ++ broken_by (element_verdict scopes.now written.now)) r first.old first.new) }
-    ensures node { IfOk result (λ r. IsFound scopes.now written.now.name.text.now → IsNear written.now.name.at
-        → WhereSimpleExprs scopes.now (exprs_view written.now.exprs) (IfSome r (IsIndexed scopes.now written.now))) }
+    ensures node { IfOk result (λ r. IsSighted scopes.now written.now.name.text.now declared.entry → IsFound scopes.now written.now.name.text.now
+        → IsNear written.now.name.at → WhereSimpleExprs scopes.now (exprs_view written.now.exprs) (IfSome r (IsIndexed scopes.now written.now))) }
+    ensures deeds { OnOk result (Adds (exprs_deeds scopes.now (exprs_view written.now.exprs)) deeds.old.items deeds.new.items) }
 {
-    let Ok(parts) = exprs(arena, scopes, &written.exprs, first) else {
+    let Ok(parts) = exprs(arena, scopes, &written.exprs, deeds, first) else {
         return Err(AllocError);
     };
     let mut untold = None;
-    let Ok(array) = named(arena, scopes, &written.name, &mut untold) else {
+    let Ok(array) = named(arena, written.name.at, declared, &mut untold) else {
         return Err(AllocError);
     };
     of_value(arena, written.name.at, written.from, array, &parts, first)
@@ -238,8 +246,9 @@ pub(crate) fn given_to_element<'t>(
     sign: AssignSign,
     value: Option<Typed<'t>>,
 ) -> Result<Step<'t>, AllocError>
-    ensures { IfOk result (λ s. (y : IndexedNode) (u : TypedNode) → x.entry ≡ Some y → value.entry ≡ Some u → is_scalar y.kind (type_of_typed u) ≡ true
-        → element_by y.kind sign.op ≡ true → IsNear sign.at → step_view s ≡ changed_at y sign.op sign.at (typed_item Once u)) }
+    ensures { IfOk result (λ s. (y : IndexedNode) (u : TypedNode) → x.entry ≡ Some y → value.entry ≡ Some u
+        → is_scalar y.kind (type_of_typed u) ≡ true → element_by y.kind sign.op ≡ true → IsNear sign.at
+        → step_view s ≡ changed_at y sign.op sign.at (typed_item Once u)) }
 {
     let Some(x) = x else {
         return Ok(Step::Nothing);

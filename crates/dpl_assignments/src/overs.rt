@@ -1,7 +1,7 @@
 // The arrays that change with a domain: those in sight that are declared over it by its bare name.
 // Such a name stood for the domain where the array was declared, so the scopes are gone through as they were opened.
 
-ghost use Rattle.std.specs.Prelude.{◌≡◌, ◌≤◌, ◌+◌, [], length, insert, is_some, option_map, IfOk, OnOk};
+ghost use Rattle.std.specs.Prelude.{◌≡◌, ◌≤◌, ◌+◌, [], length, insert, is_some, option_map, Some, IfOk, OnOk};
 ghost use Rattle.dpl_rules.specs.Sights.{enter as enter_scopes, add};
 ghost use Rattle.dpl_scopes.specs.Types.{origin_view, type_view, of_type};
 ghost use Rattle.dpl_scopes.specs.View.{declared_view};
@@ -11,7 +11,6 @@ ghost use Rattle.dpl_typed.specs.Typed.{is_rank as is_rank_of};
 ghost use Rattle.dpl_bound.specs.Sights.{over_by, sight_of};
 ghost use Rattle.dpl_assignments.specs.Overs.{slot_of_bound, IsFoundBy, passed, IsAsDeep};
 
-use crate::judge::type_in;
 use dpl_scopes::{Declared, Mark, Scopes, ValueType};
 use dpl_tree::Arena;
 use std::alloc::{AllocError, Global};
@@ -45,22 +44,25 @@ fn has_kind(t: ValueType<'_>) -> bool
     }
 }
 
-// The slot of a variable of a type, which counts as 0 where it has no kind or no slot.
+// The slot of a variable of a type, which counts as 0 where it has no kind.
 #[tactic(auto, using(crate::proofs::FoundArrays::leaf_slot))]
-fn slot_of(t: Option<ValueType<'_>>, slot: Option<usize>) -> usize
-    ensures { result ≡ (leaf_by (kind_by (of_type t.entry)) slot).slot }
+fn slot_of(t: Option<ValueType<'_>>, slot: usize) -> usize
+    ensures { result ≡ (leaf_by (kind_by (of_type t.entry)) (Some slot)).slot }
 {
     match t {
         None => 0,
-        Some(t) => if has_kind(t) { slot.unwrap_or(0) } else { 0 },
+        Some(t) => if has_kind(t) { slot } else { 0 },
     }
 }
 
-// The slot of a name.
+// The slot of a name, which counts as 0 where it isn't in sight.
 fn slot_named(scopes: &Scopes<'_>, name: &[u8]) -> usize
     ensures { result ≡ (leaf_in scopes.now name.now).slot }
 {
-    slot_of(type_in(scopes.lookup(name)), scopes.slot(name))
+    match scopes.lookup(name) {
+        None => 0,
+        Some(declared) => slot_of(declared.value_type, declared.slot),
+    }
 }
 
 // The slot of the domain that an array is over by its bare name, as its type tells it. Before the array stand these scopes.
@@ -158,7 +160,7 @@ impl<'s> Replay<'s> {
         ensures found { OnOk result (IsFoundBy slot (add (declared_view declared.entry) self.old.before) self.new.slots.items self.new.inner) }
     {
         if is_over(&self.before, declared, slot) {
-            let found = slot_of(declared.value_type, Some(self.before.next_slot()));
+            let found = slot_of(declared.value_type, self.before.next_slot());
             self.find(found)
         } else {
             Ok(())

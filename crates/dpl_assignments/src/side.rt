@@ -1,20 +1,24 @@
 // Right sides, which may be a cell read as a whole; it gives what the cell holds.
 // `x = c.readFE();` reads a cell c, which is no method of a value anywhere else.
 
-ghost use Rattle.std.specs.Prelude.{◌≡◌, is_some, IfOk};
+ghost use Rattle.std.specs.Prelude.{◌≡◌, is_some, option_map, IfOk, OnOk, IfSome};
 ghost use Rattle.dpl_language.specs.Phrases.{posts_read, post_read, cell_read as cell_read_of, item_read};
 ghost use Rattle.dpl_tree.specs.View.{expr_view, item_view, post_view, posts_of};
-ghost use Rattle.dpl_rules.specs.Sights.{lookup, type_declared};
+ghost use Rattle.dpl_rules.specs.Sights.{type_declared};
+ghost use Rattle.dpl_rules.specs.Deeds.{ACellCall, held as held_of, expr_deeds, item_deeds};
 ghost use Rattle.dpl_rules.specs.Expressions.{cell_declared, kind_read as kind_read_of, read_or_type, item_type, side_part, side_breaches};
+ghost use Rattle.dpl_scopes.specs.View.{declared_view};
+ghost use Rattle.dpl_deeds.specs.View.{Adds};
 ghost use Rattle.dpl_typed.specs.Stands.{StandsForItem};
 ghost use Rattle.dpl_typed.specs.Told.{Tells, TellsPart};
 ghost use Rattle.dpl_typed.specs.Where.{WhereSimpleItem};
 ghost use Rattle.dpl_bound.specs.Run.{side_leaves};
 
+use dpl_deeds::{Deed, Holding, held};
 use dpl_elaborator::expression::item;
-use dpl_scopes::Scopes;
-use dpl_syntax::Breach;
-use dpl_tree::{Arena, Expr, Item, Method, Name, Post, ScalarKind};
+use dpl_scopes::{Declared, Scopes};
+use dpl_syntax::{Breach, Place};
+use dpl_tree::{Arena, Expr, Item, Method, Post, ScalarKind};
 use dpl_typed::leaves::{number, truth_word};
 use dpl_typed::{Made, Part};
 use dpl_types::place::first_of_item;
@@ -46,23 +50,32 @@ fn is_read(posts: &[Post<'_>]) -> bool
     }
 }
 
-/// The kind of what a name's cell holds, where it is a cell.
-pub fn cell_kind(scopes: &Scopes<'_>, name: &Name<'_>) -> Option<ScalarKind>
-    ensures { result ≡ cell_declared (type_declared (lookup scopes.now name.now.text.now)) }
+/// The kind of what a cell holds, where a declaration is of one.
+pub fn cell_in(declared: Option<Declared<'_>>) -> Option<ScalarKind>
+    ensures { result ≡ cell_declared (type_declared (option_map declared_view declared.entry)) }
 {
-    scopes.lookup(name.text)?.value_type?.cell()
+    declared?.value_type?.cell()
 }
 
-// The kind of what the cell holds that an expression reads as a whole.
+// A cell that is read as a whole: where its name stands, and the kind of what it holds.
+#[derive(Clone, Copy)]
+struct CellRead {
+    at: Place,
+    kind: ScalarKind,
+}
+
+// The cell that an expression reads as a whole.
 #[tactic(auto, using(dpl_tree::proofs::Fields::expr_view_postfixed))]
-fn expr_kind_read(scopes: &Scopes<'_>, e: &Expr<'_>) -> Option<ScalarKind>
-    ensures { result ≡ kind_read_of scopes.now (cell_read_of (expr_view e.now)) }
+fn expr_read(scopes: &Scopes<'_>, e: &Expr<'_>) -> Option<CellRead>
+    ensures kind { option_map (λ r. r.kind) result ≡ kind_read_of scopes.now (cell_read_of (expr_view e.now)) }
+    ensures deeds { IfSome result (λ r. expr_deeds scopes.now (expr_view e.now) ≡ held_of r.at ACellCall) }
 {
     match e {
         Expr::Postfixed(postfixed) => {
             let name = postfixed.base.bare_name()?;
             if is_read(postfixed.posts) {
-                cell_kind(scopes, name)
+                let kind = cell_in(scopes.lookup(name.text))?;
+                Some(CellRead { at: name.at, kind })
             } else {
                 None
             }
@@ -82,11 +95,12 @@ fn expr_kind_read(scopes: &Scopes<'_>, e: &Expr<'_>) -> Option<ScalarKind>
 }
 
 // The same of an item.
-fn kind_read(scopes: &Scopes<'_>, item: &Item<'_>) -> Option<ScalarKind>
-    ensures { result ≡ kind_read_of scopes.now (item_read (item_view item.now)) }
+fn cell_read(scopes: &Scopes<'_>, item: &Item<'_>) -> Option<CellRead>
+    ensures kind { option_map (λ r. r.kind) result ≡ kind_read_of scopes.now (item_read (item_view item.now)) }
+    ensures deeds { IfSome result (λ r. item_deeds scopes.now (item_view item.now) ≡ held_of r.at ACellCall) }
 {
     match item {
-        Item::One(e) => expr_kind_read(scopes, e),
+        Item::One(e) => expr_read(scopes, e),
         Item::Range(_) => None,
     }
 }
@@ -97,6 +111,7 @@ fn value<'t>(
     arena: Arena<'t>,
     scopes: &Scopes<'t>,
     written: &Item<'_>,
+    deeds: &mut Vec<Deed<'t>>,
     first: &mut Option<Breach>,
 ) -> Made<'t>
     ensures told { IfOk result (λ r. Tells
@@ -104,30 +119,38 @@ fn value<'t>(
         (side_breaches scopes.now (item_view written.now)) r first.old first.new) }
     ensures node { IfOk result (λ r. WhereSimpleItem scopes.now (item_view written.now)
         (StandsForItem r (λ m. side_leaves scopes.now m (item_view written.now)))) }
+    ensures deeds { OnOk result (Adds (item_deeds scopes.now (item_view written.now)) deeds.old.items deeds.new.items) }
 {
-    match kind_read(scopes, written) {
-        Some(ScalarKind::Int) => number(arena, 0),
-        Some(ScalarKind::Bool) => truth_word(arena, false),
-        None => item(arena, scopes, written, first),
+    let Some(read) = cell_read(scopes, written) else {
+        return item(arena, scopes, written, deeds, first);
+    };
+    let Ok(()) = held(read.at, Holding::CellCall, deeds) else {
+        return Err(AllocError);
+    };
+    match read.kind {
+        ScalarKind::Int => number(arena, 0),
+        ScalarKind::Bool => truth_word(arena, false),
     }
 }
 
 /// A right side, as a part of its form.
 ///
 /// # Errors
-/// Out of memory; of what was told then nothing is said.
+/// Out of memory; of what was told and done then nothing is said.
 pub fn side<'t>(
     arena: Arena<'t>,
     scopes: &Scopes<'t>,
     written: &Item<'_>,
+    deeds: &mut Vec<Deed<'t>>,
     first: &mut Option<Breach>,
 ) -> Result<Part<'t>, AllocError>
     ensures told { IfOk result (λ p. TellsPart (side_part scopes.now (item_view written.now))
         (side_breaches scopes.now (item_view written.now)) p first.old first.new) }
     ensures node { IfOk result (λ p. WhereSimpleItem scopes.now (item_view written.now)
         (StandsForItem p.found (λ m. side_leaves scopes.now m (item_view written.now)))) }
+    ensures deeds { OnOk result (Adds (item_deeds scopes.now (item_view written.now)) deeds.old.items deeds.new.items) }
 {
-    let Ok(found) = value(arena, scopes, written, first) else {
+    let Ok(found) = value(arena, scopes, written, deeds, first) else {
         return Err(AllocError);
     };
     let at = first_of_item(written);

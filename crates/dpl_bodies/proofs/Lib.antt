@@ -1,4 +1,3 @@
 pub mod Intents
-pub mod Promoted
 pub mod Members
 pub mod Keys

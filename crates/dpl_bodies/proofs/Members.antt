@@ -8,9 +8,9 @@ use Rattle.dpl_syntax.specs.declared.refusal.Code.TheVariants.{ReadElsewhere}
 use Rattle.dpl_language.specs.Names.{Text}
 use Rattle.dpl_rules.specs.Types.{Origin, same_origin}
 use Rattle.dpl_rules.specs.Sights.{Declared}
-use Rattle.dpl_rules.specs.Deeds.{Deed, Reads, ReadsAt, Writes, WritesAt, Holds}
+use Rattle.dpl_rules.specs.Deeds.{Deed, Reads, ReadsAt, Writes, WritesAt, Holds, each}
 use Rattle.dpl_rules.specs.Verdicts.{owed}
-use Rattle.dpl_rules.specs.Bodies.{ForallScope, is_own, is_outer_array, is_in, written_by, written_arrays, write_breaches, read_breaches, change_breaches, holding_breaches, deed_breaches, each, forall_breaches}
+use Rattle.dpl_rules.specs.Bodies.{ForallScope, is_own, is_outer_array, is_in, written_by, written_arrays, write_breaches, read_breaches, change_breaches, holding_breaches, deed_breaches, forall_breaches}
 use Rattle.dpl_bodies.specs.Written.{with_origin, with_outer, all_written}
 
 or-false : (a : Bool) → (a || false) ≡ a

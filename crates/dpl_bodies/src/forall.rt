@@ -2,8 +2,9 @@
 // An outer array that it writes stands at the forall's own index wherever it is written or read.
 
 ghost use Rattle.std.specs.Prelude.{◌≡◌, [], IfOk, OnOk, OnErr, map};
+ghost use Rattle.dpl_rules.specs.Deeds.{each};
 ghost use Rattle.dpl_rules.specs.Bodies.{write_breaches as write_breaches_of, read_breaches as read_breaches_of, change_breaches as change_breaches_of};
-ghost use Rattle.dpl_rules.specs.Bodies.{forall_holds as forall_holds_of, holding_breaches as holding_breaches_of, deed_breaches as deed_breaches_of, each};
+ghost use Rattle.dpl_rules.specs.Bodies.{forall_holds as forall_holds_of, holding_breaches as holding_breaches_of, deed_breaches as deed_breaches_of};
 ghost use Rattle.dpl_rules.specs.Bodies.{forall_breaches as forall_breaches_of};
 ghost use Rattle.dpl_rules.specs.Breaches.{least_from};
 ghost use Rattle.dpl_scopes.specs.View.{declared_view};
@@ -142,7 +143,6 @@ fn holds(holding: Holding) -> bool
         | Holding::Forall
         | Holding::Coforall
         | Holding::Reduction
-        | Holding::InnerReduction
         | Holding::CellCall
         | Holding::On
         | Holding::Here

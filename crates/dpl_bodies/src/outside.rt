@@ -1,54 +1,20 @@
-// The rules C7 and C9 outside of loops' bodies: of promoted assignments, and of reductions in promoted expressions.
+// The rule C7 outside of loops' bodies: of promoted assignments.
 // A promoted assignment doesn't read its target by an index list.
 
 ghost use Rattle.std.specs.Prelude.{◌≡◌, map, option_map};
-ghost use Rattle.dpl_tree.specs.Statements.{target_view};
-ghost use Rattle.dpl_rules.specs.Bodies.{inner_reduction as inner_reduction_of, inner_reductions as inner_reductions_of};
-ghost use Rattle.dpl_rules.specs.Bodies.{element_read as element_read_of, each, whole_target as whole_target_of};
+ghost use Rattle.dpl_rules.specs.Bodies.{element_read as element_read_of, whole_target as whole_target_of};
+ghost use Rattle.dpl_rules.specs.Deeds.{each};
 ghost use Rattle.dpl_rules.specs.Breaches.{least_from};
 ghost use Rattle.dpl_scopes.specs.Types.{origin_view};
 ghost use Rattle.dpl_scopes.specs.View.{declared_view};
 ghost use Rattle.dpl_deeds.specs.View.{deed_view};
 ghost use Rattle.dpl_bodies.specs.Promoted.{promoted_by};
 
+use dpl_deeds::Deed;
 use dpl_deeds::name::is_array;
-use dpl_deeds::{Deed, Holding};
-use dpl_scopes::{Declared, Origin, Scopes};
+use dpl_scopes::{Declared, Origin};
 use dpl_syntax::{Breach, Code};
-use dpl_tree::Target;
-use dpl_types::{note, owed};
-
-// C9: no reduction stands in a promoted expression or in a map's argument.
-fn inner_reduction(deed: &Deed<'_>, first: &mut Option<Breach>)
-    ensures { first.new ≡ least_from first.old (inner_reduction_of (deed_view deed.now)) }
-{
-    match deed {
-        Deed::Holds(at, Holding::InnerReduction) => note(first, *at, Code::NotInForall),
-        Deed::Holds(_, Holding::Print)
-        | Deed::Holds(_, Holding::Forall)
-        | Deed::Holds(_, Holding::Coforall)
-        | Deed::Holds(_, Holding::Reduction)
-        | Deed::Holds(_, Holding::CellCall)
-        | Deed::Holds(_, Holding::On)
-        | Deed::Holds(_, Holding::Here)
-        | Deed::Holds(_, Holding::Declaration)
-        | Deed::Holds(_, Holding::ReduceIntent)
-        | Deed::Reads(_, _)
-        | Deed::ReadsAt(_, _, _)
-        | Deed::Writes(_, _, _)
-        | Deed::WritesAt(_, _, _, _) => {}
-    }
-}
-
-/// Tells each reduction in a promoted expression or in a map's argument.
-#[tactic(auto, using(dpl_types::proofs::Breaches::least_from_append))]
-pub fn inner_reductions(deeds: &[Deed<'_>], first: &mut Option<Breach>)
-    ensures { first.new ≡ least_from first.old (inner_reductions_of (map deed_view deeds.now)) }
-{
-    for deed in deeds {
-        inner_reduction(deed, first);
-    }
-}
+use dpl_types::owed;
 
 // C7: a promoted assignment doesn't read an element of its target.
 fn element_read(target: Origin<'_>, deed: &Deed<'_>, first: &mut Option<Breach>)
@@ -91,22 +57,16 @@ fn whole_target(declared: Option<Declared<'_>>, deeds: &[Deed<'_>], first: &mut 
     }
 }
 
-/// Tells what an assignment breaks as a promoted one, where its right side is promoted, by the deeds of that side.
+/// Tells what an assignment to a name, by its declaration, breaks as a promoted one, where its right side is promoted, by the deeds of that side.
 pub fn promoted_breaches(
-    scopes: &Scopes<'_>,
-    target: &Target<'_>,
+    target: Option<Declared<'_>>,
     promoted: bool,
     deeds: &[Deed<'_>],
     first: &mut Option<Breach>,
 )
-    ensures { first.new ≡ least_from first.old (promoted_by scopes.now (target_view target.now) promoted (map deed_view deeds.now)) }
+    ensures { first.new ≡ least_from first.old (promoted_by (option_map declared_view target.entry) promoted (map deed_view deeds.now)) }
 {
-    match target {
-        Target::Whole(name) => {
-            if promoted {
-                whole_target(scopes.lookup(name.text), deeds, first);
-            }
-        }
-        Target::Element(_) => {}
+    if promoted {
+        whole_target(target, deeds, first);
     }
 }

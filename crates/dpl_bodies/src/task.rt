@@ -20,7 +20,6 @@ fn holds(holding: Holding) -> bool
         | Holding::Forall
         | Holding::Coforall
         | Holding::Reduction
-        | Holding::InnerReduction
         | Holding::Declaration
         | Holding::ReduceIntent => false,
     }

@@ -90,7 +90,8 @@ pub fn dim<'t>(
 
 // The int that a part is. A tuple of one number, which no loop has, stands for 0, and nothing is promised of it.
 fn coordinate<'t>(arena: Arena<'t>, part: Part<'t>) -> Result<&'t IntExpr<'t>, AllocError>
-    ensures { IfOk result (λ i. (e : ExprTree Variable) → has is_int (types_of part.entry.found) ≡ true → IsArgument part.entry.found e → int_view i.now ≡ e) }
+    ensures { IfOk result (λ i. (e : ExprTree Variable) → has is_int (types_of part.entry.found) ≡ true
+        → IsArgument part.entry.found e → int_view i.now ≡ e) }
 {
     match part.found {
         Some(Typed::Int(e)) => Ok(e),
@@ -226,9 +227,10 @@ pub fn expand<'t>(
     of: Option<Typed<'t>>,
     first: &mut Option<Breach>,
 ) -> Made<'t>
-    ensures told { IfOk result (λ r. Judges (with_type (types_of of.entry) (λ t. expand_verdict at (part_view by.entry) (domain_of t))) r first.old first.new) }
-    ensures node { IfOk result (λ r. (f : Times → ExprTree Variable) (e : ExprTree Variable) → StandsFor of.entry f → IsArgument by.entry.found e → IsNear at
-        → StandsFor r (λ m. dotted (f Once) (Expand at nowhere e nowhere))) }
+    ensures told { IfOk result (λ r. Judges (with_type (types_of of.entry) (λ t. expand_verdict at (part_view by.entry) (domain_of t))) r
+        first.old first.new) }
+    ensures node { IfOk result (λ r. (f : Times → ExprTree Variable) (e : ExprTree Variable) → StandsFor of.entry f
+        → IsArgument by.entry.found e → IsNear at → StandsFor r (λ m. dotted (f Once) (Expand at nowhere e nowhere))) }
 {
     match of {
         None => Ok(None),

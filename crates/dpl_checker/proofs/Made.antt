@@ -13,14 +13,11 @@ use Rattle.dpl_agreement.proofs.RenamedParts.{intents_of-renamed}
 use Rattle.dpl_tree.specs.declared.statement.Stmt.{Stmt}
 use Rattle.dpl_tree.specs.Statements.{stmt_view, stmts_of}
 use Rattle.dpl_rules.specs.Breaches.{least_from}
-use Rattle.dpl_rules.specs.Bodies.{inner_reductions}
 use Rattle.dpl_rules.specs.Sights.{Scopes, enter}
 use Rattle.dpl_rules.specs.Types.{ValueType, has}
 use Rattle.dpl_rules.specs.Deeds.{Deed}
 use Rattle.dpl_rules.specs.Loops.{LoopWord, ForWord, ForallWord, in_loop, behind}
 use Rattle.dpl_types.proofs.Unbroken.{unbroken}
-use Rattle.dpl_limits.specs.declared.count.Counts.{Counts}
-use Rattle.dpl_limits.specs.Counts.{all_told}
 use Rattle.dpl_lowered.specs.Shapes.{nowhere}
 use Rattle.dpl_lowered.specs.LoweredExpressions.{Once, lowered_expr, lowered_item}
 use Rattle.dpl_lowered.specs.LoweredStatements.{with_intents}
@@ -41,7 +38,7 @@ use Rattle.dpl_heads.specs.Made.{over_item, is_turn, IsRun, variables_leaves, re
 use Rattle.dpl_heads.proofs.Stands.{names-fit}
 use Rattle.dpl_checker.specs.declared.form.Opened.{Opened}
 use Rattle.dpl_checker.specs.declared.walk.Walk.{Walk}
-use Rattle.dpl_checker.specs.Walks.{Walks, whole_told}
+use Rattle.dpl_checker.specs.Walks.{Walks}
 use Rattle.dpl_checker.specs.Makes.{MakesStmt, MakesStmts, MakesInner, MakesBody, MakesElse, IsOpened}
 
 -- ---- where nothing was told at the end, nothing was told before
@@ -50,9 +47,6 @@ untold o p bs told none = (unbroken o bs (sym told ∙ none)).0
 
 pub untold_before : {ss : Scopes} {n : ℕ} {ds : List Deed} {bs : List Breach} {fs : List (DeclareTree Text)} (a b : Walk) → Walks ss n ds bs fs a b → b.first ≡ None → a.first ≡ None
 untold_before {ss} {n} {ds} {bs} {fs} a b walks none = untold a.first b.first bs walks.told none
-
-pub whole_untold : (counts : Counts) (ds : List Deed) (o : Option Breach) → whole_told counts ds o ≡ None → o ≡ None
-whole_untold counts ds o none = (unbroken o (inner_reductions ds) (unbroken (least_from o (inner_reductions ds)) (all_told counts) none).0).0
 
 -- ---- what is made of a part, where it is known in which scopes that stands
 pub inner_made_at : (ss rs : Scopes) (t : Body Text) (o : Option Breach) (steps : List Step) → rs ≡ ss → MakesInner rs t o steps → MakesInner ss t o steps

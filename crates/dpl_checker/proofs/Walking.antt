@@ -1,6 +1,6 @@
 -- What a walk over each statement's parts promises of the whole statement.
 -- Each lemma goes from the parts in the order in which they are walked to the statement on its right side.
-use Rattle.std.proofs.Common.{◌≡◌, ℕ, ◌+◌, max, ◌<◌, true, false, List, [], ◌++◌, length, drop, get_or, map, Option, Some, None, refl, sym, ap, ◌∙◌, subst, append_assoc, append-nil}
+use Rattle.std.proofs.Common.{◌≡◌, ℕ, ◌+◌, max, ◌<◌, true, List, [], ◌++◌, length, drop, get_or, map, Option, Some, None, refl, sym, ap, ◌∙◌, subst, append_assoc, append-nil}
 use Rattle.std.specs.Global.{Vec}
 use Rattle.dpl_syntax.specs.declared.place.Place.{Place}
 use Rattle.dpl_syntax.specs.declared.refusal.Breach.{Breach}
@@ -18,7 +18,7 @@ use Rattle.dpl_rules.specs.Assignments.{condition_breaches, on_breaches}
 use Rattle.dpl_rules.specs.Loops.{LoopWord, ForWord, ForallWord, CoforallWord, typed_variable, over_type, variables_of, add_variables, each_once, header_breaches, with_breaches, behind}
 use Rattle.dpl_rules.specs.Deeds.{Deed, AForall, ACoforall, AnOn, held, expr_deeds, item_deeds}
 use Rattle.dpl_rules.specs.Doings.{with_deeds, stmt_deeds, body_deeds, stmts_deeds, else_deeds}
-use Rattle.dpl_rules.specs.Bodies.{ForallScope, names_of, forall_scope, forall_breaches, task_breaches, inner_reductions}
+use Rattle.dpl_rules.specs.Bodies.{ForallScope, names_of, forall_scope, forall_breaches, task_breaches}
 use Rattle.dpl_rules.specs.Breaches.{stmt_breaches, body_breaches, stmts_breaches, else_breaches, top, top_sight, declarations, body_declarations, else_declarations, all_declarations, count_breaches, least_from}
 use Rattle.dpl_rules.specs.Sound.{behind_all}
 use Rattle.dpl_types.proofs.Breaches.{least_from_append}
@@ -33,7 +33,7 @@ use Rattle.dpl_heads.specs.Told.{head_told}
 use Rattle.dpl_bound.specs.Bounds.{loop_type, slots_stmt, slots_stmts, slots_body, slots_else, slots_turn}
 use Rattle.dpl_checker.specs.declared.walk.Around.{Around}
 use Rattle.dpl_checker.specs.declared.walk.Walk.{Walk}
-use Rattle.dpl_checker.specs.Walks.{sight_in, Walks, WalksStmt, WalksStmts, WalksInner, WalksBody, behind_body, WalksElse, WalksLoop, WalksShared, of_variables, whole_told}
+use Rattle.dpl_checker.specs.Walks.{outside, sight_in, Walks, WalksTop, WalksStmt, WalksStmts, WalksInner, WalksBody, behind_body, WalksElse, WalksLoop, WalksShared, WalksTurns, of_variables}
 use Rattle.dpl_rules.proofs.Left.{leave_behind, leave_behind_all, leave_variables}
 use Rattle.dpl_checker.proofs.Slots.{slots_of_loop}
 use Rattle.dpl_checker.proofs.Steps.{told_then, told_before, adds_then}
@@ -66,36 +66,36 @@ else_where ss n around t b c e f w =
     (subst (λ vs. Walks vs (slots_else vs t b.slots) (else_deeds (enter vs) t) (else_breaches (sight_in (enter vs) around) t) (else_declarations t) b c) e w)
 
 pub while_walks : (at : Place) (e : ExprTree Text) (body : Body Text) (around : Around) (a b c : Walk)
-    → Walks a.scopes a.slots (expr_deeds a.scopes false e) (condition_breaches (sight_in a.scopes around) e) [] a b → WalksBody around body b c
+    → Walks a.scopes a.slots (expr_deeds a.scopes e) (condition_breaches (sight_in a.scopes around) e) [] a b → WalksBody around body b c
     → WalksStmt around (While at e body) a c
 while_walks at e body around a b c tested w =
     let ss = a.scopes in
     let n = a.slots in
-    walks_then ss ss n (slots_body (enter ss) body n) (expr_deeds ss false e) (body_deeds (enter ss) body)
+    walks_then ss ss n (slots_body (enter ss) body n) (expr_deeds ss e) (body_deeds (enter ss) body)
     (condition_breaches (sight_in ss around) e) (body_breaches (sight_in (enter ss) around) body) [] (body_declarations body) a b c
     tested (body_where ss n around body b c tested.scopes tested.slots w)
 
 pub if_walks : (at : Place) (e : ExprTree Text) (first : Body Text) (second : Else Text) (around : Around) (a b c d : Walk)
-    → Walks a.scopes a.slots (expr_deeds a.scopes false e) (condition_breaches (sight_in a.scopes around) e) [] a b → WalksBody around first b c → WalksElse around second c d
+    → Walks a.scopes a.slots (expr_deeds a.scopes e) (condition_breaches (sight_in a.scopes around) e) [] a b → WalksBody around first b c → WalksElse around second c d
     → WalksStmt around (If at e first second) a d
 if_walks at e first second around a b c d tested w x =
     let ss = a.scopes in
     let n = a.slots in
     let m = slots_body (enter ss) first n in
     let taken = body_where ss n around first b c tested.scopes tested.slots w in
-    walks_then ss ss m (slots_else ss second m) (expr_deeds ss false e ++ body_deeds (enter ss) first) (else_deeds (enter ss) second)
+    walks_then ss ss m (slots_else ss second m) (expr_deeds ss e ++ body_deeds (enter ss) first) (else_deeds (enter ss) second)
     (condition_breaches (sight_in ss around) e ++ body_breaches (sight_in (enter ss) around) first) (else_breaches (sight_in (enter ss) around) second)
     (body_declarations first) (else_declarations second) a c d
-    (walks_then ss ss n m (expr_deeds ss false e) (body_deeds (enter ss) first) (condition_breaches (sight_in ss around) e) (body_breaches (sight_in (enter ss) around) first) [] (body_declarations first) a b c tested taken)
+    (walks_then ss ss n m (expr_deeds ss e) (body_deeds (enter ss) first) (condition_breaches (sight_in ss around) e) (body_breaches (sight_in (enter ss) around) first) [] (body_declarations first) a b c tested taken)
     (else_where ss m around second c d taken.scopes taken.slots x)
 
 pub on_walks : (at : Place) (e : ExprTree Text) (body : Body Text) (around : Around) (a b c : Walk)
-    → Walks a.scopes a.slots (held at AnOn ++ expr_deeds a.scopes false e) (on_breaches (sight_in a.scopes around) e) [] a b → WalksBody around body b c
+    → Walks a.scopes a.slots (held at AnOn ++ expr_deeds a.scopes e) (on_breaches (sight_in a.scopes around) e) [] a b → WalksBody around body b c
     → WalksStmt around (On at e body) a c
 on_walks at e body around a b c sent w =
     let ss = a.scopes in
     let n = a.slots in
-    walks_then ss ss n (slots_body (enter ss) body n) (held at AnOn ++ expr_deeds ss false e) (body_deeds (enter ss) body)
+    walks_then ss ss n (slots_body (enter ss) body n) (held at AnOn ++ expr_deeds ss e) (body_deeds (enter ss) body)
     (on_breaches (sight_in ss around) e) (body_breaches (sight_in (enter ss) around) body) [] (body_declarations body) a b c
     sent (body_where ss n around body b c sent.scopes sent.slots w)
 
@@ -152,7 +152,7 @@ variables_left ss word xs item vs left e l =
     l ∙ ap (drop 1) e ∙ leave_variables (typed_variable word xs (over_type ss item)) (variables_of xs) [] ss
 
 pub loop_walks : (word : LoopWord) (xs : VariablesTree Text) (item : ItemTree Text) (a : Walk) (rs : Scopes) (ds : Vec DeedNode) (p q : Option Breach) (t : Option ValueType) (b : Walk)
-    → t ≡ loop_type a.scopes word xs item → p ≡ least_from a.first (head_told a.scopes word xs item) → Adds (item_deeds a.scopes false item) a.deeds.items ds.items
+    → t ≡ loop_type a.scopes word xs item → p ≡ least_from a.first (head_told a.scopes word xs item) → Adds (item_deeds a.scopes item) a.deeds.items ds.items
     → rs ≡ add_variables t (variables_of xs) (enter a.scopes) → q ≡ least_from p (each_once (enter a.scopes) (variables_of xs))
     → b ≡ record a { scopes = rs; deeds = ds; first = q; slots = max a.slots (next_slot_in rs) } → WalksLoop word xs item a b
 loop_walks word xs item a rs ds p q t b typed told added opened once is =
@@ -175,7 +175,7 @@ for_walks at xs word item body around a b c left opened w l =
     let vs = of_variables ss ForWord xs item in
     let n = slots_turn ss ForWord xs item a.slots in
     let turns = body_where vs n around body b c opened.scopes opened.slots w in
-    let all = walks_then vs vs n (slots_body (enter vs) body n) (item_deeds ss false item) (body_deeds (enter vs) body) (header_breaches ss ForWord xs item) (body_breaches (sight_in (enter vs) around) body)
+    let all = walks_then vs vs n (slots_body (enter vs) body n) (item_deeds ss item) (body_deeds (enter vs) body) (header_breaches ss ForWord xs item) (body_breaches (sight_in (enter vs) around) body)
     [] (body_declarations body) a b c opened turns in
     record { scopes = variables_left ss ForWord xs item c.scopes left turns.scopes l; slots = all.slots; deeds = all.deeds; told = all.told; counts = all.counts }
 
@@ -201,34 +201,29 @@ abbrev pub in_task : Around → Around
 in_task around = record { forall = around.forall; in_task = true }
 
 module _ (at : Place) (xs : VariablesTree Text) (word : Place) (item : ItemTree Text) (with : Option With) (body : Body Text) (around : Around) where
-  pub forall_walks : (depth start : ℕ) (a : Walk) (marked : Vec DeedNode) (b : Walk) (intended : Vec DeedNode) (c : Walk) (left : Scopes) (told : Option Breach)
+  pub forall_walks : (depth start : ℕ) (a b c : Walk) (left : Scopes) (told : Option Breach)
       → depth ≡ length a.scopes
-      → Adds (held at AForall) a.deeds.items marked.items
-      → WalksShared ForallWord xs item (optional with_view with) (record a { deeds = marked }) b
-      → Adds (with_deeds (optional with_view with)) b.deeds.items intended.items
-      → start ≡ length intended.items
-      → WalksBody (in_turns depth with around) body (record b { deeds = intended }) c
+      → WalksTurns at xs item (optional with_view with) a b
+      → start ≡ length b.deeds.items
+      → WalksBody (in_turns depth with around) body b c
       → left ≡ drop 1 c.scopes
       → told ≡ least_from c.first (forall_breaches (turns_at depth xs with) (map deed_view (drop start c.deeds.items)))
       → WalksStmt around (Forall at xs word item (optional with_view with) body) a (record c { scopes = left; first = told })
-  forall_walks depth start a marked b intended c left told deep mark opened intend begin w l t =
+  forall_walks depth start a b c left told deep opened begin w l t =
       let ss = a.scopes in
       let intents = optional with_view with in
       let vs = of_variables ss ForallWord xs item in
       let inner = in_turns (length ss) with around in
       let n = slots_turn ss ForallWord xs item a.slots in
-      let turns = body_where vs n inner body (record b { deeds = intended }) c opened.scopes opened.slots
-      (subst (λ n. WalksBody (in_turns n with around) body (record b { deeds = intended }) c) deep w) in
+      let turns = body_where vs n inner body b c opened.scopes opened.slots (subst (λ n. WalksBody (in_turns n with around) body b c) deep w) in
       let ds = body_deeds (enter vs) body in
       let does : told ≡ least_from c.first (forall_breaches (forall_scope ss xs intents) ds) =
       t ∙ ap (λ n. least_from c.first (forall_breaches (turns_at n xs with) (map deed_view (drop start c.deeds.items)))) deep
-      ∙ ap (λ es. least_from c.first (forall_breaches (forall_scope ss xs intents) es)) (behind_start start intended.items c.deeds.items ds begin turns.deeds) in
-      let head = held at AForall ++ item_deeds ss false item in
-      let begun = adds_then a.deeds.items marked.items b.deeds.items (held at AForall) (item_deeds ss false item) mark opened.deeds in
-      let shared = adds_then a.deeds.items b.deeds.items intended.items head (with_deeds intents) begun intend in record {
+      ∙ ap (λ es. least_from c.first (forall_breaches (forall_scope ss xs intents) es)) (behind_start start b.deeds.items c.deeds.items ds begin turns.deeds) in
+      let head = held at AForall ++ item_deeds ss item ++ with_deeds intents in record {
         scopes = variables_left ss ForallWord xs item c.scopes left turns.scopes l;
         slots = turns.slots;
-        deeds = adds_then a.deeds.items intended.items c.deeds.items (head ++ with_deeds intents) ds shared turns.deeds;
+        deeds = adds_then a.deeds.items b.deeds.items c.deeds.items head ds opened.deeds turns.deeds;
         told = told_around a.first b.first c.first told (header_breaches ss ForallWord xs item ++ with_breaches ss intents)
             (body_breaches (sight_in (enter vs) inner) body) (forall_breaches (forall_scope ss xs intents) ds) opened.told turns.told does;
         counts = counted_then a.counts b.counts c.counts [] (body_declarations body) opened.counts turns.counts;
@@ -256,8 +251,8 @@ module _ (at : Place) (xs : VariablesTree Text) (word : Place) (item : ItemTree 
       let does : told ≡ least_from c.first (task_breaches (length ss) (with_deeds intents ++ ds)) =
       t ∙ ap (λ n. least_from c.first (task_breaches n (map deed_view (drop start c.deeds.items)))) deep
       ∙ ap (λ es. least_from c.first (task_breaches (length ss) es)) (behind_start start b.deeds.items c.deeds.items (with_deeds intents ++ ds) begin both) in
-      let head = held at ACoforall ++ item_deeds ss false item in
-      let begun = adds_then a.deeds.items marked.items b.deeds.items (held at ACoforall) (item_deeds ss false item) mark opened.deeds in
+      let head = held at ACoforall ++ item_deeds ss item in
+      let begun = adds_then a.deeds.items marked.items b.deeds.items (held at ACoforall) (item_deeds ss item) mark opened.deeds in
       let shared = adds_then a.deeds.items b.deeds.items intended.items head (with_deeds intents) begun intend in record {
         scopes = variables_left ss CoforallWord xs item c.scopes left tasks.scopes l;
         slots = tasks.slots;
@@ -268,54 +263,90 @@ module _ (at : Place) (xs : VariablesTree Text) (word : Place) (item : ItemTree 
       }
 
 -- ---- statements, one behind the other
--- what is left from here on is what was left at first
-pub record StillWalks (around : Around) (now : Walk) (left : Stmts Text) (old : Walk) (all : Stmts Text) : Type 0 where
+-- What is left from here on is what was left at first: all but the deeds, and these.
+pub record StillPasses (around : Around) (now : Walk) (left : Stmts Text) (old : Walk) (all : Stmts Text) : Type 0 where
   pub scopes : behind_all now.scopes left ≡ behind_all old.scopes all
   pub slots : slots_stmts now.scopes left now.slots ≡ slots_stmts old.scopes all old.slots
-  pub deeds : map deed_view now.deeds.items ++ stmts_deeds now.scopes left ≡ map deed_view old.deeds.items ++ stmts_deeds old.scopes all
   pub told : least_from now.first (stmts_breaches (sight_in now.scopes around) left) ≡ least_from old.first (stmts_breaches (sight_in old.scopes around) all)
   pub counts : counts_after now.counts (all_declarations left) ≡ counts_after old.counts (all_declarations all)
 
-pub still_begun : (around : Around) (a : Walk) (ts : Stmts Text) → StillWalks around a ts a ts
-still_begun around a ts = record { scopes = refl; slots = refl; deeds = refl; told = refl; counts = refl }
+abbrev pub StillAdds : Walk → Stmts Text → Walk → Stmts Text → Type 0
+StillAdds now left old all = map deed_view now.deeds.items ++ stmts_deeds now.scopes left ≡ map deed_view old.deeds.items ++ stmts_deeds old.scopes all
 
-pub still_then : (around : Around) (a b c : Walk) (ts us vs : Stmts Text) → StillWalks around a ts b us → StillWalks around b us c vs → StillWalks around a ts c vs
-still_then around a b c ts us vs f g = record { scopes = f.scopes ∙ g.scopes; slots = f.slots ∙ g.slots; deeds = f.deeds ∙ g.deeds; told = f.told ∙ g.told; counts = f.counts ∙ g.counts }
+abbrev pub StillWalks : Around → Walk → Stmts Text → Walk → Stmts Text → Type 0
+StillWalks around now left old all = StillPasses around now left old all × StillAdds now left old all
 
-pub still_step : (around : Around) (xs : List Stmt) (k : ℕ) (x : Stmt) (a b : Walk) → k < length xs → x ≡ get_or xs k x → WalksStmt around (stmt_view x) a b
-    → StillWalks around b (stmts_of (drop (k + 1) xs)) a (stmts_of (drop k xs))
-still_step around xs k x a b within is w =
+pub passes_begun : (around : Around) (a : Walk) (ts : Stmts Text) → StillPasses around a ts a ts
+passes_begun around a ts = record { scopes = refl; slots = refl; told = refl; counts = refl }
+
+pub adds_begun : (a : Walk) (ts : Stmts Text) → StillAdds a ts a ts
+adds_begun a ts = refl
+
+pub passes_then : (around : Around) (a b c : Walk) (ts us vs : Stmts Text) → StillPasses around a ts b us → StillPasses around b us c vs → StillPasses around a ts c vs
+passes_then around a b c ts us vs f g = record { scopes = f.scopes ∙ g.scopes; slots = f.slots ∙ g.slots; told = f.told ∙ g.told; counts = f.counts ∙ g.counts }
+
+-- whatever stands in the list of deeds
+pub passes_with : (around : Around) (now : Walk) (ds : Vec DeedNode) (left : Stmts Text) (old : Walk) (all : Stmts Text)
+    → StillPasses around now left old all → StillPasses around (record now { deeds = ds }) left old all
+passes_with around now ds left old all f = record { scopes = f.scopes; slots = f.slots; told = f.told; counts = f.counts }
+
+pub passes_step : (around : Around) (xs : List Stmt) (k : ℕ) (x : Stmt) (a b : Walk) → k < length xs → x ≡ get_or xs k x → WalksStmt around (stmt_view x) a b
+    → StillPasses around b (stmts_of (drop (k + 1) xs)) a (stmts_of (drop k xs))
+passes_step around xs k x a b within is w =
     let t = stmt_view x in
     let ts = stmts_of (drop (k + 1) xs) in
     let vs = behind a.scopes t in
     rw (drop-at xs k x within is) (record {
       scopes = ap (λ ss. behind_all ss ts) w.scopes;
       slots = ap (λ ss. slots_stmts ss ts b.slots) w.scopes ∙ ap (slots_stmts vs ts) w.slots;
-      deeds = ap (λ ss. map deed_view b.deeds.items ++ stmts_deeds ss ts) w.scopes
-          ∙ ap (λ ds. ds ++ stmts_deeds vs ts) w.deeds
-          ∙ append_assoc (map deed_view a.deeds.items) (stmt_deeds a.scopes t) (stmts_deeds vs ts);
       told = ap (λ ss. least_from b.first (stmts_breaches (sight_in ss around) ts)) w.scopes
           ∙ ap (λ o. least_from o (stmts_breaches (sight_in vs around) ts)) w.told
           ∙ sym (least_from_append a.first (stmt_breaches (sight_in a.scopes around) t) (stmts_breaches (sight_in vs around) ts));
       counts = ap (λ n. counts_after n (all_declarations ts)) w.counts ∙ sym (counts_after_append a.counts (declarations t) (all_declarations ts));
     })
 
+pub adds_step : (around : Around) (xs : List Stmt) (k : ℕ) (x : Stmt) (a b : Walk) → k < length xs → x ≡ get_or xs k x → WalksStmt around (stmt_view x) a b
+    → StillAdds b (stmts_of (drop (k + 1) xs)) a (stmts_of (drop k xs))
+adds_step around xs k x a b within is w =
+    let t = stmt_view x in
+    let ts = stmts_of (drop (k + 1) xs) in
+    let vs = behind a.scopes t in
+    rw (drop-at xs k x within is) (
+    ap (λ ss. map deed_view b.deeds.items ++ stmts_deeds ss ts) w.scopes
+    ∙ ap (λ ds. ds ++ stmts_deeds vs ts) w.deeds
+    ∙ append_assoc (map deed_view a.deeds.items) (stmt_deeds a.scopes t) (stmts_deeds vs ts)
+    )
+
 pub still_ended : (around : Around) (now old : Walk) (left all : Stmts Text) → left ≡ NoStmts → StillWalks around now left old all → WalksStmts around all old now
 still_ended around now old left all none walks =
     let end = subst (λ ts. StillWalks around now ts old all) none walks in
-    record { scopes = end.scopes; slots = end.slots; deeds = sym (append-nil (map deed_view now.deeds.items)) ∙ end.deeds; told = end.told; counts = end.counts }
+    record {
+      scopes = end.0.scopes;
+      slots = end.0.slots;
+      deeds = sym (append-nil (map deed_view now.deeds.items)) ∙ end.1;
+      told = end.0.told;
+      counts = end.0.counts;
+    }
+
+-- those of the top level, where there were no deeds at first and are none now
+pub top_ended : (now old : Walk) (left all : Stmts Text) → left ≡ NoStmts → old.deeds.items ≡ [] → now.deeds.items ≡ [] → StillPasses outside now left old all → WalksTop all old now
+top_ended now old left all none empty cleared walks =
+    let end = subst (λ ts. StillPasses outside now ts old all) none walks in
+    record {
+      scopes = end.scopes;
+      slots = end.slots;
+      deeds = ap (map deed_view) (cleared ∙ sym empty) ∙ sym (append-nil (map deed_view old.deeds.items));
+      told = end.told;
+      counts = end.counts;
+    }
 
 -- ---- a program
--- outside of foralls and tasks
-abbrev pub outside : Around
-outside = record { forall = None; in_task = false }
-
-module _ (ts : Stmts Text) (a b : Walk) (scopes : a.scopes ≡ top) (slots : a.slots ≡ 0) (deeds : a.deeds.items ≡ []) (first : a.first ≡ None) (counts : a.counts ≡ none_yet)
-    (walks : WalksStmts outside ts a b) where
-  all_walks : Walks (behind_all top ts) (slots_stmts top ts 0) (stmts_deeds top ts) (stmts_breaches top_sight ts) (all_declarations ts) a b
+module _ (ts : Stmts Text) (a b : Walk) (scopes : a.scopes ≡ top) (slots : a.slots ≡ 0) (first : a.first ≡ None) (counts : a.counts ≡ none_yet)
+    (walks : WalksTop ts a b) where
+  all_walks : Walks (behind_all top ts) (slots_stmts top ts 0) [] (stmts_breaches top_sight ts) (all_declarations ts) a b
   all_walks =
-      subst (λ n. Walks (behind_all top ts) (slots_stmts top ts n) (stmts_deeds top ts) (stmts_breaches top_sight ts) (all_declarations ts) a b) slots
-      (subst (λ vs. Walks (behind_all vs ts) (slots_stmts vs ts a.slots) (stmts_deeds vs ts) (stmts_breaches (sight_in vs outside) ts) (all_declarations ts) a b) scopes walks)
+      subst (λ n. Walks (behind_all top ts) (slots_stmts top ts n) [] (stmts_breaches top_sight ts) (all_declarations ts) a b) slots
+      (subst (λ vs. Walks (behind_all vs ts) (slots_stmts vs ts a.slots) [] (stmts_breaches (sight_in vs outside) ts) (all_declarations ts) a b) scopes walks)
 
   pub program_behind : b.scopes ≡ behind_all top ts
   program_behind = all_walks.scopes
@@ -323,15 +354,10 @@ module _ (ts : Stmts Text) (a b : Walk) (scopes : a.scopes ≡ top) (slots : a.s
   pub program_slots : b.slots ≡ slots_stmts top ts 0
   program_slots = all_walks.slots
 
-  pub program_told : whole_told b.counts (map deed_view b.deeds.items) b.first
-      ≡ least_from None (stmts_breaches top_sight ts ++ inner_reductions (stmts_deeds top ts) ++ count_breaches (all_declarations ts))
+  pub program_told : least_from b.first (all_told b.counts) ≡ least_from None (stmts_breaches top_sight ts ++ count_breaches (all_declarations ts))
   program_told =
       let told = stmts_breaches top_sight ts in
-      let ds = stmts_deeds top ts in
-      let inner = inner_reductions ds in
       let counted = count_breaches (all_declarations ts) in
-      ap (λ es. whole_told b.counts es b.first) (all_walks.deeds ∙ ap (λ es. map deed_view es ++ ds) deeds)
-      ∙ ap (whole_told b.counts ds) (all_walks.told ∙ ap (λ o. least_from o told) first)
-      ∙ ap (least_from (least_from (least_from None told) inner)) (ap all_told (all_walks.counts ∙ ap (λ c. counts_after c (all_declarations ts)) counts) ∙ counts_told (all_declarations ts))
-      ∙ ap (λ o. least_from o counted) (sym (least_from_append None told inner))
-      ∙ sym (least_from_append None (told ++ inner) counted)
+      ap (λ o. least_from o (all_told b.counts)) (all_walks.told ∙ ap (λ o. least_from o told) first)
+      ∙ ap (least_from (least_from None told)) (ap all_told (all_walks.counts ∙ ap (λ c. counts_after c (all_declarations ts)) counts) ∙ counts_told (all_declarations ts))
+      ∙ sym (least_from_append None told counted)

@@ -1,23 +1,30 @@
 -- What a walk over a part of a program promises: what is in sight behind it, how many slots there are, what it did, the first violation so far, and
 -- what it declared. Each is that of the definition's walks, one after the other.
-use Rattle.std.specs.Prelude.{◌≡◌, ◌++◌, ℕ, false, List, [], Option, option_map}
+use Rattle.std.specs.Prelude.{◌≡◌, ◌++◌, ℕ, false, List, [], Option, None, option_map}
+use Rattle.dpl_syntax.specs.declared.place.Place.{Place}
 use Rattle.dpl_syntax.specs.declared.refusal.Breach.{Breach}
 use Rattle.dpl_language.specs.Tree.{ItemTree, VariablesTree, WithTree, DeclareTree, StmtTree, Body, WordBody, BlockBody, Else, Stmts}
 use Rattle.dpl_language.specs.Names.{Text}
 use Rattle.dpl_rules.specs.Sights.{Scopes, Sight, enter}
-use Rattle.dpl_rules.specs.Loops.{LoopWord, typed_variable, over_type, variables_of, add_variables, behind, header_breaches, with_breaches}
+use Rattle.dpl_rules.specs.Loops.{LoopWord, ForallWord, typed_variable, over_type, variables_of, add_variables, behind, header_breaches, with_breaches}
 use Rattle.dpl_rules.specs.Sound.{behind_all}
-use Rattle.dpl_rules.specs.Deeds.{Deed, item_deeds}
-use Rattle.dpl_rules.specs.Bodies.{inner_reductions}
-use Rattle.dpl_rules.specs.Doings.{stmt_deeds, body_deeds, stmts_deeds, else_deeds}
-use Rattle.dpl_rules.specs.Breaches.{stmt_breaches, body_breaches, stmts_breaches, else_breaches, declarations, body_declarations, else_declarations, all_declarations, least_from}
+use Rattle.dpl_rules.specs.Deeds.{Deed, AForall, held, item_deeds}
+use Rattle.dpl_rules.specs.Doings.{with_deeds, stmt_deeds, body_deeds, stmts_deeds, else_deeds}
+use Rattle.dpl_rules.specs.Breaches.{top, stmt_breaches, body_breaches, stmts_breaches, else_breaches, declarations, body_declarations, else_declarations, all_declarations, least_from}
 use Rattle.dpl_deeds.specs.View.{Adds}
-use Rattle.dpl_limits.specs.declared.count.Counts.{Counts}
-use Rattle.dpl_limits.specs.Counts.{counts_after, all_told}
+use Rattle.dpl_limits.specs.Counts.{none_yet, counts_after}
 use Rattle.dpl_bound.specs.Bounds.{slots_stmt, slots_stmts, slots_body, slots_else, slots_turn}
 use Rattle.dpl_assignments.specs.Around.{reducing_view}
 use Rattle.dpl_checker.specs.declared.walk.Around.{Around}
 use Rattle.dpl_checker.specs.declared.walk.Walk.{Walk}
+
+-- a walk before any statement
+abbrev pub HasBegun : Walk → Type 0
+HasBegun walk = (walk.scopes ≡ top) × (walk.slots ≡ 0) × (walk.deeds.items ≡ []) × (walk.first ≡ None) × (walk.counts ≡ none_yet)
+
+-- outside of foralls and tasks
+abbrev pub outside : Around
+outside = record { forall = None; in_task = false }
 
 -- what a statement has in sight
 abbrev pub sight_in : Scopes → Around → Sight
@@ -41,6 +48,11 @@ abbrev pub WalksStmts : Around → Stmts Text → Walk → Walk → Type 0
 WalksStmts around ts old new =
     Walks (behind_all old.scopes ts) (slots_stmts old.scopes ts old.slots) (stmts_deeds old.scopes ts) (stmts_breaches (sight_in old.scopes around) ts)
     (all_declarations ts) old new
+
+-- the statements of the top level, whose deeds nobody asks for, and which leave none
+abbrev pub WalksTop : Stmts Text → Walk → Walk → Type 0
+WalksTop ts old new =
+    Walks (behind_all old.scopes ts) (slots_stmts old.scopes ts old.slots) [] (stmts_breaches (sight_in old.scopes outside) ts) (all_declarations ts) old new
 
 -- a body, in the scope that was opened for it
 abbrev pub behind_body : Scopes → Body Text → Scopes
@@ -70,7 +82,7 @@ of_variables scopes word xs item = add_variables (typed_variable word xs (over_t
 -- the head of a loop, and that of a forall or a coforall with its intents: the scope of the variables is open behind them
 abbrev pub WalksHead : LoopWord → VariablesTree Text → ItemTree Text → List Breach → Walk → Walk → Type 0
 WalksHead word xs item told old new =
-    Walks (of_variables old.scopes word xs item) (slots_turn old.scopes word xs item old.slots) (item_deeds old.scopes false item) told [] old new
+    Walks (of_variables old.scopes word xs item) (slots_turn old.scopes word xs item old.slots) (item_deeds old.scopes item) told [] old new
 
 abbrev pub WalksLoop : LoopWord → VariablesTree Text → ItemTree Text → Walk → Walk → Type 0
 WalksLoop word xs item old new = WalksHead word xs item (header_breaches old.scopes word xs item) old new
@@ -79,6 +91,9 @@ abbrev pub WalksShared : LoopWord → VariablesTree Text → ItemTree Text → O
 WalksShared word xs item with_them old new =
     WalksHead word xs item (header_breaches old.scopes word xs item ++ with_breaches old.scopes with_them) old new
 
--- behind all statements: a first violation before, with what all deeds and all declarations of a program break
-abbrev pub whole_told : Counts → List Deed → Option Breach → Option Breach
-whole_told counts ds first = least_from (least_from first (inner_reductions ds)) (all_told counts)
+-- that of a forall at its place, with the deed that there is one before, and those of its intents behind
+abbrev pub WalksTurns : Place → VariablesTree Text → ItemTree Text → Option (WithTree Text) → Walk → Walk → Type 0
+WalksTurns at xs item with_them old new =
+    Walks (of_variables old.scopes ForallWord xs item) (slots_turn old.scopes ForallWord xs item old.slots)
+    (held at AForall ++ item_deeds old.scopes item ++ with_deeds with_them)
+    (header_breaches old.scopes ForallWord xs item ++ with_breaches old.scopes with_them) [] old new

@@ -1,26 +1,24 @@
 // The statements that hold no other, and the heads of loops: what each tells and does, what is in sight behind it, and its step.
 // A loop's head opens the scope of its variables.
 
-ghost use Rattle.std.specs.Prelude.{◌++◌, [], false, OnOk, IfOk};
+ghost use Rattle.std.specs.Prelude.{◌++◌, [], OnOk, IfOk};
 ghost use Rattle.dpl_language.specs.Tree.{Declare as DeclareTree, Assigned as AssignedTree, Call as CallTree, Write as WriteTree};
 ghost use Rattle.dpl_tree.specs.View.{name_view, expr_view, item_view};
 ghost use Rattle.dpl_tree.specs.Declarations.{optional, declare_view};
 ghost use Rattle.dpl_tree.specs.Statements.{target_view, sign_view, call_view, written_view, variables_view, with_view};
 ghost use Rattle.dpl_rules.specs.Assignments.{condition_breaches, on_breaches};
+ghost use Rattle.dpl_rules.specs.Loops.{ForallWord};
 ghost use Rattle.dpl_heads.specs.Told.{word_view};
 ghost use Rattle.dpl_rules.specs.Deeds.{held as held_of, AnOn, expr_deeds as expr_deeds_of};
 ghost use Rattle.dpl_checker.specs.declared.walk.Around.{Around as AroundNode};
-ghost use Rattle.dpl_checker.specs.Walks.{Walks, WalksStmt, WalksLoop, WalksShared, sight_in};
+ghost use Rattle.dpl_checker.specs.Walks.{Walks, WalksStmt, WalksLoop, WalksShared, WalksTurns, sight_in};
 ghost use Rattle.dpl_checker.specs.Makes.{MakesStmt, MakesTruth, MakesHead, MakesReduced};
 
 use crate::walk::{Around, Stepped, Walk};
 use dpl_assignments::assignment::assignment;
-use dpl_bodies::outside::promoted_breaches;
 use dpl_declarations::declaration::declaration;
-use dpl_deeds::declaration::declaration_deeds;
-use dpl_deeds::expression::{expr_deeds, item_deeds};
-use dpl_deeds::statement::{arguments_deeds, call_deeds, target_deeds};
-use dpl_deeds::{Holding, behind, held};
+use dpl_deeds::intents::with_deeds;
+use dpl_deeds::{Holding, held};
 use dpl_heads::condition::{condition, on};
 use dpl_heads::head::{Iterable, LoopWord, head};
 use dpl_heads::intents::intents;
@@ -29,7 +27,7 @@ use dpl_nodes::{BoolExpr, Intent, Names, Step};
 use dpl_prints::call::call;
 use dpl_prints::print::print;
 use dpl_syntax::Place;
-use dpl_tree::{Assignment, CellCall, Declare, Expr, Item, Variables, With, Write};
+use dpl_tree::{Assignment, CellCall, Declare, Expr, Forall, Item, Variables, With, Write};
 use std::alloc::AllocError;
 
 /// A declaration, whose name is in sight behind it.
@@ -42,15 +40,12 @@ pub(crate) fn declare<'t>(
     ensures walks { OnOk result (WalksStmt around.entry (DeclareTree (declare_view written.now)) walk.old walk.new) }
     ensures makes { IfOk result (MakesStmt walk.old.scopes (DeclareTree (declare_view written.now)) walk.new.first) }
 {
-    let Ok(made) = declaration(walk.arena, &walk.scopes, written, &mut walk.first) else {
-        return Err(AllocError);
-    };
-    let Ok(()) = declaration_deeds(
+    let Ok(made) = declaration(
         walk.arena,
         &walk.scopes,
         written,
-        made.is_apart,
         &mut walk.deeds,
+        &mut walk.first,
     ) else {
         return Err(AllocError);
     };
@@ -77,42 +72,14 @@ pub(crate) fn assigned<'t>(
     ensures makes { IfOk result (MakesStmt walk.old.scopes (AssignedTree (target_view written.now.target) (sign_view written.now.sign)
         (item_view written.now.value) written.now.semicolon) walk.new.first) }
 {
-    let Ok(made) = assignment(
+    assignment(
         walk.arena,
         &walk.scopes,
         &around.forall,
         written,
-        &mut walk.first,
-    ) else {
-        return Err(AllocError);
-    };
-    let start = walk.deeds.len();
-    let Ok(()) = item_deeds(
-        walk.arena,
-        &walk.scopes,
-        false,
-        &written.value,
         &mut walk.deeds,
-    ) else {
-        return Err(AllocError);
-    };
-    promoted_breaches(
-        &walk.scopes,
-        &written.target,
-        made.promoted,
-        behind(&walk.deeds, start),
         &mut walk.first,
-    );
-    let Ok(()) = target_deeds(
-        walk.arena,
-        &walk.scopes,
-        &written.target,
-        written.sign.op,
-        &mut walk.deeds,
-    ) else {
-        return Err(AllocError);
-    };
-    Ok(made.step)
+    )
 }
 
 /// A cell's call, which isn't run.
@@ -124,15 +91,12 @@ pub(crate) fn called<'t>(
     ensures { OnOk result (WalksStmt around.entry (CallTree (name_view written.now.name) written.now.dot
         (call_view written.now.call) written.now.semicolon) walk.old walk.new) }
 {
-    let Ok(()) = call(walk.arena, &walk.scopes, written, &mut walk.first) else {
-        return Err(AllocError);
-    };
-    let Ok(()) = call_deeds(
+    let Ok(()) = call(
         walk.arena,
         &walk.scopes,
-        &written.name,
-        &written.call,
+        written,
         &mut walk.deeds,
+        &mut walk.first,
     ) else {
         return Err(AllocError);
     };
@@ -140,7 +104,6 @@ pub(crate) fn called<'t>(
 }
 
 /// What is printed.
-#[tactic(auto, using(dpl_deeds::proofs::Steps::added_then))]
 pub(crate) fn printed<'t>(
     walk: &mut Walk<'t>,
     around: Around<'t>,
@@ -149,27 +112,14 @@ pub(crate) fn printed<'t>(
     ensures walks { OnOk result (WalksStmt around.entry (WriteTree (written_view written.now)) walk.old walk.new) }
     ensures makes { IfOk result (MakesStmt walk.old.scopes (WriteTree (written_view written.now)) walk.new.first) }
 {
-    let Ok(step) = print(
+    print(
         walk.arena,
         &walk.scopes,
         around.in_task,
         written,
-        &mut walk.first,
-    ) else {
-        return Err(AllocError);
-    };
-    let Ok(()) = held(written.at, Holding::Print, &mut walk.deeds) else {
-        return Err(AllocError);
-    };
-    let Ok(()) = arguments_deeds(
-        walk.arena,
-        &walk.scopes,
-        &written.arguments,
         &mut walk.deeds,
-    ) else {
-        return Err(AllocError);
-    };
-    Ok(step)
+        &mut walk.first,
+    )
 }
 
 /// What a loop's head comes to: its variables with their slots, and what it runs over.
@@ -196,11 +146,9 @@ pub(crate) fn open_loop<'t>(
         word,
         variables,
         over,
+        &mut walk.deeds,
         &mut walk.first,
     ) else {
-        return Err(AllocError);
-    };
-    let Ok(()) = item_deeds(walk.arena, &walk.scopes, false, over, &mut walk.deeds) else {
         return Err(AllocError);
     };
     let Ok(names) = enter_loop(
@@ -241,35 +189,67 @@ pub(crate) fn open_shared<'t>(
     Ok((opened, reduced))
 }
 
+/// The head of a forall with its intents: its reduce variables. What it does is that there is one, then what it runs over does, then its intents.
+pub(crate) fn open_forall<'t>(
+    walk: &mut Walk<'t>,
+    turns: &Forall<'t>,
+) -> Result<(Opened<'t>, &'t [Intent]), AllocError>
+    ensures walks { OnOk result (WalksTurns turns.now.at (variables_view turns.now.variables) (item_view turns.now.over) (optional with_view turns.now.with)
+        walk.old walk.new) }
+    ensures makes { IfOk result (λ o. MakesHead walk.old.scopes ForallWord (variables_view turns.now.variables) (item_view turns.now.over)
+        walk.new.first o.0) }
+    ensures reduced { IfOk result (λ o. MakesReduced walk.old.scopes (optional with_view turns.now.with) walk.new.first o.1.now) }
+{
+    let Ok(()) = held(turns.at, Holding::Forall, &mut walk.deeds) else {
+        return Err(AllocError);
+    };
+    let Ok((opened, reduced)) = open_shared(
+        walk,
+        LoopWord::Forall,
+        &turns.variables,
+        &turns.over,
+        &turns.with,
+    ) else {
+        return Err(AllocError);
+    };
+    let Ok(()) = with_deeds(&turns.with, &mut walk.deeds) else {
+        return Err(AllocError);
+    };
+    Ok((opened, reduced))
+}
+
 /// The condition of an `if` or a `while`.
 pub(crate) fn tested<'t>(
     walk: &mut Walk<'t>,
     e: &Expr<'t>,
 ) -> Result<Option<&'t BoolExpr<'t>>, AllocError>
-    ensures walks { (around : AroundNode) → OnOk result (Walks walk.old.scopes walk.old.slots (expr_deeds_of walk.old.scopes false (expr_view e.now))
+    ensures walks { (around : AroundNode) → OnOk result (Walks walk.old.scopes walk.old.slots (expr_deeds_of walk.old.scopes (expr_view e.now))
         (condition_breaches (sight_in walk.old.scopes around) (expr_view e.now)) [] walk.old walk.new) }
     ensures makes { IfOk result (MakesTruth walk.old.scopes (expr_view e.now) walk.new.first) }
 {
-    let Ok(tested) = condition(walk.arena, &walk.scopes, e, &mut walk.first) else {
-        return Err(AllocError);
-    };
-    let Ok(()) = expr_deeds(walk.arena, &walk.scopes, false, e, &mut walk.deeds) else {
-        return Err(AllocError);
-    };
-    Ok(tested)
+    condition(
+        walk.arena,
+        &walk.scopes,
+        e,
+        &mut walk.deeds,
+        &mut walk.first,
+    )
 }
 
 /// What `on` stands before.
 pub(crate) fn sent<'t>(walk: &mut Walk<'t>, at: Place, e: &Expr<'t>) -> Result<(), AllocError>
     ensures { (around : AroundNode) → OnOk result (Walks walk.old.scopes walk.old.slots
-        (held_of at AnOn ++ expr_deeds_of walk.old.scopes false (expr_view e.now)) (on_breaches (sight_in walk.old.scopes around) (expr_view e.now)) []
+        (held_of at AnOn ++ expr_deeds_of walk.old.scopes (expr_view e.now)) (on_breaches (sight_in walk.old.scopes around) (expr_view e.now)) []
         walk.old walk.new) }
 {
-    let Ok(()) = on(walk.arena, &walk.scopes, e, &mut walk.first) else {
-        return Err(AllocError);
-    };
     let Ok(()) = held(at, Holding::On, &mut walk.deeds) else {
         return Err(AllocError);
     };
-    expr_deeds(walk.arena, &walk.scopes, false, e, &mut walk.deeds)
+    on(
+        walk.arena,
+        &walk.scopes,
+        e,
+        &mut walk.deeds,
+        &mut walk.first,
+    )
 }

@@ -1,24 +1,21 @@
 // A whole program, walked over: where it breaks which rule first, its steps, how many slots these need, and its top level.
 // A program without a violation keeps all rules, and a set that doesn't fit it is refused after these.
 
-ghost use Rattle.std.specs.Prelude.{◌≡◌, IfOk, [], None, map};
+ghost use Rattle.std.specs.Prelude.{◌≡◌, IfOk, OnOk, [], map};
 ghost use Rattle.dpl_tree.specs.Statements.{stmts_of, program_view};
 ghost use Rattle.dpl_rules.specs.Breaches.{top, first_breach as first_breach_of};
 ghost use Rattle.dpl_rules.specs.Sound.{behind_all, refusal_by, sets_fit as sets_fit_of};
-ghost use Rattle.dpl_deeds.specs.View.{deed_view};
 ghost use Rattle.dpl_bound.specs.Bounds.{slots_of};
-ghost use Rattle.dpl_limits.specs.Counts.{none_yet};
-ghost use Rattle.dpl_checker.specs.Walks.{whole_told};
+ghost use Rattle.dpl_checker.specs.Walks.{HasBegun, WalksTop};
 ghost use Rattle.dpl_checker.specs.Makes.{MakesStmts};
 
-use crate::statement::stmts;
+use crate::statement::stmt;
 use crate::walk::{Around, Walk};
-use dpl_bodies::outside::inner_reductions;
 use dpl_limits::{Counts, sets_fit};
 use dpl_nodes::Step;
 use dpl_scopes::Scopes;
 use dpl_syntax::{Breach, Code, Refusal};
-use dpl_tree::{Arena, Program};
+use dpl_tree::{Arena, Program, Stmt};
 use std::alloc::{AllocError, Global};
 
 /// A program that was walked over.
@@ -27,7 +24,7 @@ pub struct Walked<'t> {
     /// The first violation by place and then by code, if there is one.
     pub first: Option<Breach>,
     /// The program as typed statements; where a rule is broken, of these nothing is said.
-    pub steps: &'t [Step<'t>],
+    pub steps: Vec<Step<'t>>,
     /// How many slots a frame needs.
     pub slots: usize,
     /// The names at the program's end: its top level.
@@ -36,7 +33,7 @@ pub struct Walked<'t> {
 
 // A walk before any statement.
 fn begin<'t>(arena: Arena<'t>) -> Result<Walk<'t>, AllocError>
-    ensures { IfOk result (λ walk. (walk.scopes ≡ top) × (walk.slots ≡ 0) × (walk.deeds.items ≡ []) × (walk.first ≡ None) × (walk.counts ≡ none_yet)) }
+    ensures { IfOk result (λ walk. HasBegun walk) }
 {
     let alloc = arena.alloc();
     let Ok(scopes) = Scopes::new(alloc) else {
@@ -52,12 +49,27 @@ fn begin<'t>(arena: Arena<'t>) -> Result<Walk<'t>, AllocError>
     })
 }
 
-// Behind a walk over all statements of a program: what is told of all deeds and of all declarations.
-fn tell_whole(walk: &mut Walk<'_>)
-    ensures { walk.new ≡ record walk.old { first = whole_told walk.old.counts (map deed_view walk.old.deeds.items) walk.old.first } }
+// The statements of the top level, one behind the other. What each does is dropped behind it: no loop is around it that could forbid that.
+fn top_level<'t>(walk: &mut Walk<'t>, stmts: &[Stmt<'t>]) -> Result<Vec<Step<'t>>, AllocError>
+    requires { walk.old.deeds.items ≡ [] }
+    ensures walks { OnOk result (WalksTop (stmts_of stmts.now) walk.old walk.new) }
+    ensures makes { IfOk result (λ steps. MakesStmts walk.old.scopes (stmts_of stmts.now) walk.new.first steps.items) }
 {
-    inner_reductions(&walk.deeds, &mut walk.first);
-    walk.counts.tell(&mut walk.first);
+    let outside = Around {
+        forall: None,
+        in_task: false,
+    };
+    let mut steps = Vec::new(walk.arena.alloc());
+    for next in stmts {
+        let Ok(step) = stmt(walk, outside, next) else {
+            return Err(AllocError);
+        };
+        walk.deeds.clear();
+        let Ok(()) = steps.push(step) else {
+            return Err(AllocError);
+        };
+    }
+    Ok(steps)
 }
 
 /// Walks over a program once. Nodes lie in the arena.
@@ -68,19 +80,15 @@ pub fn walk_over<'t>(arena: Arena<'t>, program: &Program<'t>) -> Result<Walked<'
     ensures first { IfOk result (λ w. w.first ≡ first_breach_of (program_view program.now)) }
     ensures scopes { IfOk result (λ w. w.scopes ≡ behind_all top (stmts_of program.now.stmts.now)) }
     ensures slots { IfOk result (λ w. w.slots ≡ slots_of (program_view program.now)) }
-    ensures steps { IfOk result (λ w. MakesStmts top (stmts_of program.now.stmts.now) w.first w.steps.now) }
+    ensures steps { IfOk result (λ w. MakesStmts top (stmts_of program.now.stmts.now) w.first w.steps.items) }
 {
     let Ok(mut walk) = begin(arena) else {
         return Err(AllocError);
     };
-    let outside = Around {
-        forall: None,
-        in_task: false,
-    };
-    let Ok(steps) = stmts(&mut walk, outside, program.stmts) else {
+    let Ok(steps) = top_level(&mut walk, program.stmts) else {
         return Err(AllocError);
     };
-    tell_whole(&mut walk);
+    walk.counts.tell(&mut walk.first);
     Ok(Walked {
         first: walk.first,
         steps,

@@ -9,13 +9,15 @@ ghost use Rattle.dpl_checker.specs.Walks.{WalksStmt, WalksStmts, WalksInner, Wal
 ghost use Rattle.dpl_checker.specs.Makes.{MakesStmt, MakesStmts, MakesInner, MakesBody, MakesElse};
 
 use crate::changed::changed;
-use crate::form::{assigned, called, declare, open_loop, open_shared, printed, sent, tested};
+use crate::form::{
+    assigned, called, declare, open_forall, open_loop, open_shared, printed, sent, tested,
+};
 use crate::walk::{Around, Listed, Stepped, Walk};
 use dpl_assignments::around::Reducing;
 use dpl_bodies::ForallScope;
 use dpl_bodies::forall::forall_breaches;
 use dpl_bodies::task::task_breaches;
-use dpl_deeds::statement::with_deeds;
+use dpl_deeds::intents::with_deeds;
 use dpl_deeds::{Holding, behind, held};
 use dpl_heads::head::LoopWord;
 use dpl_heads::steps::{for_step, forall_step, if_step, while_step};
@@ -55,9 +57,9 @@ pub(crate) fn stmt<'t>(walk: &mut Walk<'t>, around: Around<'t>, stmt: &Stmt<'t>)
     }
 }
 
-/// Statements, one behind the other.
+// Statements, one behind the other.
 #[cycle(statement)]
-pub(crate) fn stmts<'t>(walk: &mut Walk<'t>, around: Around<'t>, stmts: &[Stmt<'t>]) -> Listed<'t>
+fn stmts<'t>(walk: &mut Walk<'t>, around: Around<'t>, stmts: &[Stmt<'t>]) -> Listed<'t>
     ensures walks { OnOk result (WalksStmts around.entry (stmts_of stmts.now) walk.old walk.new) }
     ensures makes { IfOk result (λ steps. MakesStmts walk.old.scopes (stmts_of stmts.now) walk.new.first steps.now) }
 {
@@ -214,19 +216,7 @@ fn forall_turns<'t>(walk: &mut Walk<'t>, around: Around<'t>, turns: &Forall<'t>)
     let Ok(at) = spot(walk.arena, turns.at) else {
         return Err(AllocError);
     };
-    let Ok(()) = held(turns.at, Holding::Forall, &mut walk.deeds) else {
-        return Err(AllocError);
-    };
-    let Ok((opened, reduced)) = open_shared(
-        walk,
-        LoopWord::Forall,
-        &turns.variables,
-        &turns.over,
-        &turns.with,
-    ) else {
-        return Err(AllocError);
-    };
-    let Ok(()) = with_deeds(&turns.with, &mut walk.deeds) else {
+    let Ok((opened, reduced)) = open_forall(walk, turns) else {
         return Err(AllocError);
     };
     let start = walk.deeds.len();

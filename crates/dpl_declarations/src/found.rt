@@ -10,11 +10,10 @@ pub(crate) struct Found<'t> {
     pub step: Step<'t>,
 }
 
-/// A declaration, elaborated: what it declares, with a type where nothing is broken in it; the step that it is; and whether it is of an
-/// array, a domain or a cell. Where it breaks a rule, and where it doesn't run, the step is a stand-in, of which nothing is said.
+/// A declaration, elaborated: what it declares, with a type where nothing is broken in it, and the step that it is. Where it breaks a rule,
+/// and where it doesn't run, the step is a stand-in, of which nothing is said.
 #[derive(Clone, Copy)]
 pub struct Elaborated<'t> {
     pub declared: Declared<'t>,
     pub step: Step<'t>,
-    pub is_apart: bool,
 }

@@ -3,6 +3,7 @@
 
 ghost use Rattle.std.specs.Prelude.{◌≡◌, None, IfOk, OnOk};
 ghost use Rattle.dpl_language.specs.Tree.{ItemInit};
+ghost use Rattle.dpl_rules.specs.Doings.{init_deeds, initial_deeds};
 ghost use Rattle.dpl_rules.specs.Breaches.{least_from};
 ghost use Rattle.dpl_rules.specs.Declarations.{is_initial, type_rank as type_rank_of, agreeing as agreeing_of, unmapped as unmapped_of, is_untyped};
 ghost use Rattle.dpl_rules.specs.Declarations.{init_part, untyped_breaches, typed_breaches, typed_initial as typed_initial_of};
@@ -13,6 +14,7 @@ ghost use Rattle.dpl_scopes.specs.Types.{type_view, of_type};
 ghost use Rattle.dpl_tree.specs.Declarations.{optional, mapped_view, init_view, initial_view};
 ghost use Rattle.dpl_tree.specs.View.{item_view};
 ghost use Rattle.dpl_types.specs.Wants.{takes};
+ghost use Rattle.dpl_deeds.specs.View.{Adds};
 ghost use Rattle.dpl_typed.specs.Stands.{StandsForItem};
 ghost use Rattle.dpl_typed.specs.Told.{Tells, TellsPart};
 ghost use Rattle.dpl_typed.specs.Typed.{types_of, part_view};
@@ -25,6 +27,7 @@ ghost use Rattle.dpl_declarations.specs.Plain.{IsPlainInit};
 use crate::over::over_items;
 use crate::placing::{created, placed};
 use dpl_assignments::side::side;
+use dpl_deeds::Deed;
 use dpl_mapped::mapped;
 use dpl_nodes::Placing;
 use dpl_scopes::{Scopes, ValueType};
@@ -100,12 +103,13 @@ fn domain_rank(found: Option<Typed<'_>>) -> Option<usize>
 }
 
 // An item, with a map or without one, as the initial value of a name without a type.
-#[tactic(auto, using(dpl_types::proofs::Breaches::least_from_append))]
+#[tactic(auto, using(dpl_types::proofs::Breaches::least_from_append, dpl_deeds::proofs::Steps::added_then))]
 fn untyped_item<'t>(
     arena: Arena<'t>,
     scopes: &Scopes<'t>,
     written: &Item<'_>,
     map: &Option<Mapped<'_>>,
+    deeds: &mut Vec<Deed<'t>>,
     first: &mut Option<Breach>,
 ) -> Result<Given<'t>, AllocError>
     ensures told { IfOk result (λ g. TellsPart (side_part scopes.now (item_view written.now))
@@ -113,13 +117,15 @@ fn untyped_item<'t>(
     ensures node { IfOk result (λ g. first.new ≡ None → AreKnownScopes scopes.now
         → IsPlainInit scopes.now (ItemInit (item_view written.now) (optional mapped_view map.now))
         → IsGivenBy scopes.now (ItemInit (item_view written.now) (optional mapped_view map.now)) g) }
+    ensures deeds { OnOk result (Adds (init_deeds scopes.now (ItemInit (item_view written.now) (optional mapped_view map.now)))
+        deeds.old.items deeds.new.items) }
 {
-    let Ok(part) = side(arena, scopes, written, first) else {
+    let Ok(part) = side(arena, scopes, written, deeds, first) else {
         return Err(AllocError);
     };
     kept(map, part, first);
     let rank = domain_rank(part.found);
-    let Ok(named) = mapped(arena, scopes, rank, map, first) else {
+    let Ok(named) = mapped(arena, scopes, rank, map, deeds, first) else {
         return Err(AllocError);
     };
     let placing = placed(named, Placing::Derived);
@@ -129,22 +135,25 @@ fn untyped_item<'t>(
 /// The initial value of a name without a type.
 ///
 /// # Errors
-/// Out of memory; of what was told then nothing is said.
+/// Out of memory; of what was told and done then nothing is said.
 pub(crate) fn untyped<'t>(
     arena: Arena<'t>,
     scopes: &Scopes<'t>,
     written: &Init<'_>,
+    deeds: &mut Vec<Deed<'t>>,
     first: &mut Option<Breach>,
 ) -> Result<Given<'t>, AllocError>
     ensures told { IfOk result (λ g. TellsPart (init_part scopes.now (init_view written.now))
         (untyped_breaches scopes.now (init_view written.now)) g.part first.old first.new) }
     ensures node { IfOk result (λ g. first.new ≡ None → AreKnownScopes scopes.now → IsPlainInit scopes.now (init_view written.now)
         → IsGivenBy scopes.now (init_view written.now) g) }
+    ensures deeds { OnOk result (Adds (init_deeds scopes.now (init_view written.now)) deeds.old.items deeds.new.items) }
 {
     match written {
-        Init::Item(item, map) => untyped_item(arena, scopes, item, map, first),
+        Init::Item(item, map) => untyped_item(arena, scopes, item, map, deeds, first),
         Init::Create(create) => {
-            let Ok(found) = over_items(arena, scopes, create.from, &create.items, first) else {
+            let Ok(found) = over_items(arena, scopes, create.from, &create.items, deeds, first)
+            else {
                 return Err(AllocError);
             };
             let part = Part {
@@ -158,27 +167,30 @@ pub(crate) fn untyped<'t>(
 }
 
 // An item, with a map or without one, beside a declared type.
-#[tactic(auto, using(dpl_types::proofs::Breaches::least_from_append))]
+#[tactic(auto, using(dpl_types::proofs::Breaches::least_from_append, dpl_deeds::proofs::Steps::added_then))]
 fn typed_item<'t>(
     arena: Arena<'t>,
     scopes: &Scopes<'t>,
     declared: Option<ValueType<'t>>,
     written: &Item<'_>,
     map: &Option<Mapped<'_>>,
+    deeds: &mut Vec<Deed<'t>>,
     first: &mut Option<Breach>,
 ) -> Made<'t>
     ensures told { IfOk result (λ r. Tells (side_part scopes.now (item_view written.now)).type
         (typed_breaches scopes.now (of_type declared.entry) (ItemInit (item_view written.now) (optional mapped_view map.now))) r first.old first.new) }
     ensures node { IfOk result (λ r. WhereSimpleItem scopes.now (item_view written.now)
         (StandsForItem r (λ m. side_leaves scopes.now m (item_view written.now)))) }
+    ensures deeds { OnOk result (Adds (init_deeds scopes.now (ItemInit (item_view written.now) (optional mapped_view map.now)))
+        deeds.old.items deeds.new.items) }
 {
-    let Ok(part) = side(arena, scopes, written, first) else {
+    let Ok(part) = side(arena, scopes, written, deeds, first) else {
         return Err(AllocError);
     };
     agreeing(declared, part, first);
     unmapped(map, first);
     let rank = domain_rank(part.found);
-    let Ok(_) = mapped(arena, scopes, rank, map, first) else {
+    let Ok(_) = mapped(arena, scopes, rank, map, deeds, first) else {
         return Err(AllocError);
     };
     Ok(part.found)
@@ -191,15 +203,17 @@ fn typed<'t>(
     scopes: &Scopes<'t>,
     declared: Option<ValueType<'t>>,
     written: &Init<'_>,
+    deeds: &mut Vec<Deed<'t>>,
     first: &mut Option<Breach>,
 ) -> Made<'t>
     ensures told { OnOk result (first.new ≡ least_from first.old (typed_breaches scopes.now (of_type declared.entry) (init_view written.now))) }
     ensures node { IfOk result (λ r. IsBeside scopes.now (init_view written.now) r) }
+    ensures deeds { OnOk result (Adds (init_deeds scopes.now (init_view written.now)) deeds.old.items deeds.new.items) }
 {
     match written {
-        Init::Item(item, map) => typed_item(arena, scopes, declared, item, map, first),
+        Init::Item(item, map) => typed_item(arena, scopes, declared, item, map, deeds, first),
         Init::Create(create) => {
-            let Ok(_) = over_items(arena, scopes, create.from, &create.items, first) else {
+            let Ok(_) = over_items(arena, scopes, create.from, &create.items, deeds, first) else {
                 return Err(AllocError);
             };
             note(first, create.at, Code::WrongType);
@@ -211,19 +225,21 @@ fn typed<'t>(
 /// The initial value beside a declared type, if one is written.
 ///
 /// # Errors
-/// Out of memory; of what was told then nothing is said.
+/// Out of memory; of what was told and done then nothing is said.
 pub(crate) fn typed_initial<'t>(
     arena: Arena<'t>,
     scopes: &Scopes<'t>,
     declared: Option<ValueType<'t>>,
     written: &Option<Initial<'_>>,
+    deeds: &mut Vec<Deed<'t>>,
     first: &mut Option<Breach>,
 ) -> Made<'t>
     ensures told { OnOk result (first.new ≡ least_from first.old (typed_initial_of scopes.now (of_type declared.entry) (optional initial_view written.now))) }
     ensures node { IfOk result (λ r. IsInitialBeside scopes.now (optional initial_view written.now) r) }
+    ensures deeds { OnOk result (Adds (initial_deeds scopes.now (optional initial_view written.now)) deeds.old.items deeds.new.items) }
 {
     match written {
         None => Ok(None),
-        Some(initial) => typed(arena, scopes, declared, &initial.init, first),
+        Some(initial) => typed(arena, scopes, declared, &initial.init, deeds, first),
     }
 }

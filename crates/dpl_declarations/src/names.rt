@@ -1,16 +1,18 @@
 // Declarations without a type, and of each type: what each gives its name, and the step that it is.
 // `config const` is an int or a bool. A cell runs nowhere yet.
 
-ghost use Rattle.std.specs.Prelude.{◌≡◌, nat_le, ◌&&◌, IfOk, None, Some};
+ghost use Rattle.std.specs.Prelude.{◌≡◌, ◌++◌, nat_le, ◌&&◌, IfOk, OnOk, None, Some};
 ghost use Rattle.dpl_language.specs.Declarations.{type_of};
 ghost use Rattle.dpl_language.specs.Phrases.{natural as natural_of};
 ghost use Rattle.dpl_language.specs.Tree.{ScalarType, SyncType, DomainType as DomainTypeTree, ArrayType as ArrayTypeTree};
+ghost use Rattle.dpl_rules.specs.Doings.{type_deeds, initial_deeds};
 ghost use Rattle.dpl_rules.specs.Breaches.{least_from};
 ghost use Rattle.dpl_rules.specs.Types.{is_any_scalar};
 ghost use Rattle.dpl_rules.specs.Verdicts.{breach, owed as owed_of, where_given, wanted as wanted_of};
 ghost use Rattle.dpl_syntax.specs.declared.place.Place.{Place as PlaceNode};
 ghost use Rattle.dpl_syntax.specs.declared.refusal.Code.TheVariants.{WrongType as WrongTypeCode, WrongRank as WrongRankCode};
 ghost use Rattle.dpl_tree.specs.Declarations.{domain_type_view, array_type_view, declare_view};
+ghost use Rattle.dpl_deeds.specs.View.{Adds};
 ghost use Rattle.dpl_typed.specs.Typed.{part_view};
 ghost use Rattle.dpl_declarations.specs.Plain.{IsPlainAs};
 ghost use Rattle.dpl_declarations.specs.Told.{TellsAs};
@@ -22,6 +24,7 @@ use crate::initial::{typed_initial, untyped};
 use crate::over::{array_type, over_items};
 use crate::placing::placed;
 use crate::single::{begun, domain, or_default};
+use dpl_deeds::Deed;
 use dpl_mapped::mapped;
 use dpl_nodes::{Placing, Step};
 use dpl_scopes::{Origin, Scopes, ValueType};
@@ -80,11 +83,13 @@ fn untyped_name<'t>(
     arena: Arena<'t>,
     scopes: &Scopes<'t>,
     written: &Declare<'_>,
+    deeds: &mut Vec<Deed<'t>>,
     first: &mut Option<Breach>,
 ) -> Result<Found<'t>, AllocError>
     ensures told { IfOk result (λ f. TellsAs scopes.now (declare_view written.now) None f first.old first.new) }
     ensures node { IfOk result (λ f. first.new ≡ None → IsPlainAs scopes.now (declare_view written.now) None
         → IsFoundAs scopes.now (declare_view written.now) None f) }
+    ensures deeds { OnOk result (Adds (initial_deeds scopes.now (declare_view written.now).initial) deeds.old.items deeds.new.items) }
 {
     match &written.initial {
         None => Ok(Found {
@@ -92,7 +97,7 @@ fn untyped_name<'t>(
             step: Step::Nothing,
         }),
         Some(initial) => {
-            let Ok(given) = untyped(arena, scopes, &initial.init, first) else {
+            let Ok(given) = untyped(arena, scopes, &initial.init, deeds, first) else {
                 return Err(AllocError);
             };
             configured(written.config, given.part, first);
@@ -112,14 +117,17 @@ fn scalar_name<'t>(
     scopes: &Scopes<'t>,
     written: &Declare<'_>,
     kind: ScalarKind,
+    deeds: &mut Vec<Deed<'t>>,
     first: &mut Option<Breach>,
 ) -> Result<Found<'t>, AllocError>
     ensures told { IfOk result (λ f. (at : PlaceNode) → TellsAs scopes.now (declare_view written.now) (Some (ScalarType at kind)) f first.old first.new) }
     ensures node { IfOk result (λ f. (at : PlaceNode) → first.new ≡ None → IsPlainAs scopes.now (declare_view written.now) (Some (ScalarType at kind))
         → IsFoundAs scopes.now (declare_view written.now) (Some (ScalarType at kind)) f) }
+    ensures deeds { OnOk result (Adds (initial_deeds scopes.now (declare_view written.now).initial) deeds.old.items deeds.new.items) }
 {
     let value_type = Some(ValueType::Scalar(kind));
-    let Ok(initial) = typed_initial(arena, scopes, value_type, &written.initial, first) else {
+    let Ok(initial) = typed_initial(arena, scopes, value_type, &written.initial, deeds, first)
+    else {
         return Err(AllocError);
     };
     let Ok(value) = or_default(arena, kind, initial) else {
@@ -138,13 +146,15 @@ fn sync_name<'t>(
     written: &Declare<'_>,
     at: Place,
     kind: ScalarKind,
+    deeds: &mut Vec<Deed<'t>>,
     first: &mut Option<Breach>,
 ) -> Result<Found<'t>, AllocError>
     ensures told { IfOk result (λ f. (kind_at : PlaceNode)
         → TellsAs scopes.now (declare_view written.now) (Some (SyncType at kind_at kind)) f first.old first.new) }
+    ensures deeds { OnOk result (Adds (initial_deeds scopes.now (declare_view written.now).initial) deeds.old.items deeds.new.items) }
 {
     let value_type = Some(ValueType::Cell(kind));
-    let Ok(_) = typed_initial(arena, scopes, value_type, &written.initial, first) else {
+    let Ok(_) = typed_initial(arena, scopes, value_type, &written.initial, deeds, first) else {
         return Err(AllocError);
     };
     unconfigured(written.config, at, first);
@@ -155,27 +165,31 @@ fn sync_name<'t>(
 }
 
 // A domain: its rank is 1 to 3.
-#[tactic(auto, using(dpl_types::proofs::Breaches::least_from_append))]
+#[tactic(auto, using(dpl_types::proofs::Breaches::least_from_append, dpl_deeds::proofs::Steps::added_then))]
 fn domain_name<'t>(
     arena: Arena<'t>,
     scopes: &Scopes<'t>,
     written: &Declare<'_>,
     typed: &DomainType<'_>,
+    deeds: &mut Vec<Deed<'t>>,
     first: &mut Option<Breach>,
 ) -> Result<Found<'t>, AllocError>
     ensures told { IfOk result (λ f. TellsAs scopes.now (declare_view written.now) (Some (DomainTypeTree (domain_type_view typed.now))) f first.old first.new) }
     ensures node { IfOk result (λ f. first.new ≡ None → IsPlainAs scopes.now (declare_view written.now) (Some (DomainTypeTree (domain_type_view typed.now)))
         → IsFoundAs scopes.now (declare_view written.now) (Some (DomainTypeTree (domain_type_view typed.now))) f) }
+    ensures deeds { OnOk result (Adds (type_deeds scopes.now (Some (DomainTypeTree (domain_type_view typed.now)))
+        ++ initial_deeds scopes.now (declare_view written.now).initial) deeds.old.items deeds.new.items) }
 {
     let rank = ranked(typed, first);
-    let Ok(map) = mapped(arena, scopes, Some(rank), &typed.mapped, first) else {
+    let Ok(map) = mapped(arena, scopes, Some(rank), &typed.mapped, deeds, first) else {
         return Err(AllocError);
     };
     let value_type = Some(ValueType::Domain {
         rank,
         strided: false,
     });
-    let Ok(initial) = typed_initial(arena, scopes, value_type, &written.initial, first) else {
+    let Ok(initial) = typed_initial(arena, scopes, value_type, &written.initial, deeds, first)
+    else {
         return Err(AllocError);
     };
     unconfigured(written.config, typed.at, first);
@@ -186,19 +200,22 @@ fn domain_name<'t>(
 }
 
 // An array, over the declaration of a bare domain name, or else over its own.
-#[tactic(auto, using(dpl_types::proofs::Breaches::least_from_append))]
+#[tactic(auto, using(dpl_types::proofs::Breaches::least_from_append, dpl_deeds::proofs::Steps::added_then))]
 fn array_name<'t>(
     arena: Arena<'t>,
     scopes: &Scopes<'t>,
     written: &Declare<'t>,
     typed: &ArrayType<'t>,
+    deeds: &mut Vec<Deed<'t>>,
     first: &mut Option<Breach>,
 ) -> Result<Found<'t>, AllocError>
     ensures told { IfOk result (λ f. TellsAs scopes.now (declare_view written.now) (Some (ArrayTypeTree (array_type_view typed.now))) f first.old first.new) }
     ensures node { IfOk result (λ f. first.new ≡ None → IsPlainAs scopes.now (declare_view written.now) (Some (ArrayTypeTree (array_type_view typed.now)))
         → IsFoundAs scopes.now (declare_view written.now) (Some (ArrayTypeTree (array_type_view typed.now))) f) }
+    ensures deeds { OnOk result (Adds (type_deeds scopes.now (Some (ArrayTypeTree (array_type_view typed.now)))
+        ++ initial_deeds scopes.now (declare_view written.now).initial) deeds.old.items deeds.new.items) }
 {
-    let Ok(over) = over_items(arena, scopes, typed.from, &typed.over, first) else {
+    let Ok(over) = over_items(arena, scopes, typed.from, &typed.over, deeds, first) else {
         return Err(AllocError);
     };
     let own = Origin {
@@ -206,7 +223,7 @@ fn array_name<'t>(
         depth: scopes.depth(),
     };
     let value_type = array_type(scopes, own, typed, over);
-    let Ok(value) = typed_initial(arena, scopes, value_type, &written.initial, first) else {
+    let Ok(value) = typed_initial(arena, scopes, value_type, &written.initial, deeds, first) else {
         return Err(AllocError);
     };
     unconfigured(written.config, typed.from, first);
@@ -221,26 +238,33 @@ fn array_name<'t>(
 /// What a declaration gives its name, and the step that it is.
 ///
 /// # Errors
-/// Out of memory; of what was told then nothing is said.
+/// Out of memory; of what was told and done then nothing is said.
 pub(crate) fn name<'t>(
     arena: Arena<'t>,
     scopes: &Scopes<'t>,
     written: &Declare<'t>,
+    deeds: &mut Vec<Deed<'t>>,
     first: &mut Option<Breach>,
 ) -> Result<Found<'t>, AllocError>
     ensures told { IfOk result (λ f. TellsAs scopes.now (declare_view written.now) (type_of (declare_view written.now).typed) f first.old first.new) }
     ensures node { IfOk result (λ f. first.new ≡ None → IsPlainAs scopes.now (declare_view written.now) (type_of (declare_view written.now).typed)
         → IsFoundAs scopes.now (declare_view written.now) (type_of (declare_view written.now).typed) f) }
+    ensures deeds { OnOk result (Adds (type_deeds scopes.now (type_of (declare_view written.now).typed)
+        ++ initial_deeds scopes.now (declare_view written.now).initial) deeds.old.items deeds.new.items) }
 {
     match &written.typed {
-        None => untyped_name(arena, scopes, written, first),
+        None => untyped_name(arena, scopes, written, deeds, first),
         Some(typed) => match &typed.declared {
-            DeclaredType::Scalar(_, kind) => scalar_name(arena, scopes, written, *kind, first),
+            DeclaredType::Scalar(_, kind) => scalar_name(
+                arena, scopes, written, *kind, deeds, first,
+            ),
             DeclaredType::Sync(at, _, kind) => {
-                sync_name(arena, scopes, written, *at, *kind, first)
+                sync_name(arena, scopes, written, *at, *kind, deeds, first)
             }
-            DeclaredType::Domain(domain) => domain_name(arena, scopes, written, domain, first),
-            DeclaredType::Array(array) => array_name(arena, scopes, written, array, first),
+            DeclaredType::Domain(domain) => domain_name(
+                arena, scopes, written, domain, deeds, first,
+            ),
+            DeclaredType::Array(array) => array_name(arena, scopes, written, array, deeds, first),
         },
     }
 }

@@ -1,7 +1,7 @@
 // What arrays are over, and domains are created from: ranges, or one domain. An array over a domain's bare name changes with it.
 // That name stands as it is between the brackets; what only looks like a name there doesn't.
 
-ghost use Rattle.std.specs.Prelude.{◌≡◌, true, is_some, Option, IfOk, Some, option_map};
+ghost use Rattle.std.specs.Prelude.{◌≡◌, true, IfOk, OnOk, Some, option_map};
 ghost use Rattle.dpl_language.specs.Phrases.{item_over, declared_over};
 ghost use Rattle.dpl_language.specs.Tree.{DomainLiteral, Items as ItemsTree, One};
 ghost use Rattle.dpl_lowered.specs.LoweredExpressions.{Once};
@@ -9,6 +9,7 @@ ghost use Rattle.dpl_lowered.specs.Shapes.{nowhere};
 ghost use Rattle.dpl_memory.specs.Memory.{Variable};
 ghost use Rattle.dpl_nodes.specs.Steps.{over_items as items_over};
 ghost use Rattle.dpl_nodes.specs.Typed.{items_one, domain_view, ranges_items};
+ghost use Rattle.dpl_rules.specs.Deeds.{items_deeds};
 ghost use Rattle.dpl_rules.specs.Declarations.{base_over as base_over_of, over_domain, domain_in};
 ghost use Rattle.dpl_rules.specs.Expressions.{item_parts};
 ghost use Rattle.dpl_rules.specs.Operators.{over_verdict};
@@ -18,6 +19,7 @@ ghost use Rattle.dpl_scopes.specs.Types.{of_type, origin_view};
 ghost use Rattle.dpl_syntax.specs.declared.place.Place.{Place as PlaceNode};
 ghost use Rattle.dpl_tree.specs.Declarations.{array_type_view};
 ghost use Rattle.dpl_tree.specs.View.{item_view, items_view};
+ghost use Rattle.dpl_deeds.specs.View.{Adds};
 ghost use Rattle.dpl_typed.specs.declared.typed.Typed.{Typed as TypedNode};
 ghost use Rattle.dpl_typed.specs.Lowered.{items_leaves};
 ghost use Rattle.dpl_typed.specs.Stands.{StandsFor};
@@ -28,6 +30,7 @@ ghost use Rattle.dpl_declarations.specs.Plain.{ArePlainItems};
 ghost use Rattle.dpl_declarations.specs.Told.{over_told};
 
 use dpl_brackets::domains::over;
+use dpl_deeds::Deed;
 use dpl_elaborator::expression::items;
 use dpl_nodes::step::DeclaredOver;
 use dpl_nodes::{DomainExpr, RangeExpr, RangesExpr};
@@ -41,21 +44,23 @@ use std::alloc::AllocError;
 /// What an array is over, or a domain is created from: the domain of these.
 ///
 /// # Errors
-/// Out of memory; of what was told then nothing is said.
+/// Out of memory; of what was told and done then nothing is said.
 #[tactic(auto, using(dpl_types::proofs::Breaches::least_from_append))]
 pub(crate) fn over_items<'t>(
     arena: Arena<'t>,
     scopes: &Scopes<'t>,
     from: Place,
     written: &Items<'_>,
+    deeds: &mut Vec<Deed<'t>>,
     first: &mut Option<Breach>,
 ) -> Made<'t>
     ensures told { IfOk result (λ r. Tells (type_by (over_verdict from (item_parts scopes.now (items_view written.now))))
         (over_told scopes.now from (items_view written.now)) r first.old first.new) }
     ensures node { IfOk result (λ r. ArePlainItems scopes.now from (items_view written.now)
         → StandsFor r (λ m. DomainLiteral from (items_leaves scopes.now (items_view written.now)) nowhere)) }
+    ensures deeds { OnOk result (Adds (items_deeds scopes.now (items_view written.now)) deeds.old.items deeds.new.items) }
 {
-    let Ok(parts) = items(arena, scopes, written, first) else {
+    let Ok(parts) = items(arena, scopes, written, deeds, first) else {
         return Err(AllocError);
     };
     over(arena, from, &parts, first)

@@ -1,5 +1,3 @@
 pub mod Steps
 pub mod Indices
 pub mod Parts
-pub mod Pairs
-pub mod Chains

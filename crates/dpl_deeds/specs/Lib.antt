@@ -1,4 +1,3 @@
 -- What serves contracts and proofs alone.
 pub mod View
 pub mod Parts
-pub mod Pairs

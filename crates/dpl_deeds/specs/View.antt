@@ -2,7 +2,7 @@
 -- What is subtracted from a name is added to it with the other sign.
 use Rattle.std.specs.Prelude.{◌≡◌, neg_ℤ, List, ◌++◌, map}
 use Rattle.dpl_scopes.specs.View.{declared_view}
-use Rattle.dpl_rules.specs.Deeds.{IndexPart, AtName, Shifted, Elsewhere, Holding, APrint, AForall, ACoforall, AReduction, AnInnerReduction, ACellCall, AnOn, AHere, ADeclaration, AReduceIntent, Deed, Reads, ReadsAt, Writes, WritesAt, Holds}
+use Rattle.dpl_rules.specs.Deeds.{IndexPart, AtName, Shifted, Elsewhere, Holding, APrint, AForall, ACoforall, AReduction, ACellCall, AnOn, AHere, ADeclaration, AReduceIntent, Deed, Reads, ReadsAt, Writes, WritesAt, Holds}
 use Rattle.dpl_deeds.specs.declared.deed.IndexPart.{IndexPart as IndexNode}
 use Rattle.dpl_deeds.specs.declared.deed.IndexPart.TheVariants as index
 use Rattle.dpl_deeds.specs.declared.deed.Holding.{Holding as HoldingNode}
@@ -21,7 +21,6 @@ holding_view holding.Print = APrint
 holding_view holding.Forall = AForall
 holding_view holding.Coforall = ACoforall
 holding_view holding.Reduction = AReduction
-holding_view holding.InnerReduction = AnInnerReduction
 holding_view holding.CellCall = ACellCall
 holding_view holding.On = AnOn
 holding_view holding.Here = AHere

@@ -1,10 +1,9 @@
 // Deeds: the names and elements that a text reads and writes, and what it holds.
 // specs/View.antt gives the deed of the language's check that each stands for.
 
-ghost use Rattle.std.specs.Prelude.{◌≡◌, OnOk, [], ◌∷◌, map, drop};
+ghost use Rattle.std.specs.Prelude.{◌≡◌, OnOk, [], ◌∷◌, take, drop};
 ghost use Rattle.dpl_rules.specs.Deeds.{held as held_of, held_if as held_if_of};
 ghost use Rattle.dpl_deeds.specs.View.{holding_view, deed_view, Adds};
-ghost use Rattle.dpl_deeds.specs.Pairs.{is_reduction as is_reduction_of, holds_reduction as holds_reduction_of};
 
 use dpl_scopes::Declared;
 use dpl_syntax::Place;
@@ -34,8 +33,6 @@ pub enum Holding {
     Forall,
     Coforall,
     Reduction,
-    /// A reduction in a promoted expression or in a map's argument.
-    InnerReduction,
     CellCall,
     On,
     Here,
@@ -94,18 +91,11 @@ pub fn held_if(holds: bool, at: Place, holding: Holding, deeds: &mut Vec<Deed<'_
     }
 }
 
-// Whether a deed is that a reduction stands there.
-fn is_reduction(deed: &Deed<'_>) -> bool
-    ensures { result ≡ is_reduction_of (deed_view deed.now) }
+/// The first so many deeds.
+pub fn before<'a, 't>(deeds: &'a [Deed<'t>], upto: usize) -> &'a [Deed<'t>]
+    ensures { result.now ≡ take upto deeds.now }
 {
-    match deed {
-        Deed::Holds(_, Holding::Reduction) => true,
-        Deed::Holds(_, _)
-        | Deed::Reads(_, _)
-        | Deed::ReadsAt(_, _, _)
-        | Deed::Writes(_, _, _)
-        | Deed::WritesAt(_, _, _, _) => false,
-    }
+    &deeds[..upto.min(deeds.len())]
 }
 
 /// The deeds behind the first so many.
@@ -113,16 +103,4 @@ pub fn behind<'a, 't>(deeds: &'a [Deed<'t>], start: usize) -> &'a [Deed<'t>]
     ensures { result.now ≡ drop start deeds.now }
 {
     &deeds[start.min(deeds.len())..]
-}
-
-/// Whether a reduction is among the deeds.
-pub fn holds_reduction(deeds: &[Deed<'_>]) -> bool
-    ensures { result ≡ holds_reduction_of (map deed_view deeds.now) }
-{
-    for deed in deeds {
-        if is_reduction(deed) {
-            return true;
-        }
-    }
-    false
 }

@@ -1,13 +1,12 @@
 // What expressions and statements do that a loop around them may forbid: a list of deeds, as dpl_rules defines them.
-// Each function puts the deeds of its part behind those that stand in the list.
+// Whoever walks over a part puts its deeds behind those that stand in the list; here are the list, the deeds of names and of targets, and C9.
 #![tactic(auto)]
 
-pub mod declaration;
 mod deed;
-pub mod expression;
 pub mod index;
+pub mod inner;
+pub mod intents;
 pub mod name;
-pub mod promoted;
-pub mod statement;
+pub mod target;
 
-pub use deed::{Added, Deed, Holding, IndexPart, behind, held, held_if};
+pub use deed::{Added, Deed, Holding, IndexPart, before, behind, held, held_if};

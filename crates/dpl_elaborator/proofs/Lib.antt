@@ -3,3 +3,4 @@ pub mod Chains
 pub mod Bases
 pub mod Behind
 pub mod Listed
+pub mod Promoted

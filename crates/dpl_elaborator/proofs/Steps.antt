@@ -18,7 +18,9 @@ use Rattle.dpl_rules.specs.Places.{first_of, first_of_item, last_of_post}
 use Rattle.dpl_rules.specs.Sights.{Scopes}
 use Rattle.dpl_rules.specs.Expressions.{type_of, item_type, chain_type, posts_type, post_verdict, more_item_parts, more_expr_parts, expr_breaches, item_breaches, post_breaches, chain_breaches, posts_breaches, more_items_breaches, more_exprs_breaches}
 use Rattle.dpl_rules.specs.Breaches.{least_from}
+use Rattle.dpl_rules.specs.Deeds.{Deed, expr_deeds, item_deeds, links_deeds, posts_deeds, post_deeds, more_items_deeds, more_exprs_deeds}
 use Rattle.dpl_types.proofs.Breaches.{least_from_append}
+use Rattle.dpl_deeds.proofs.Steps.{added_then}
 use Rattle.dpl_elaborator.specs.Forms.{link_verdict}
 
 -- breaches that were told, and those that are left
@@ -79,3 +81,28 @@ module _ (scopes : Scopes) where
             ∙ ap (λ z. map part_view ps ++ z ∷ more_expr_parts scopes left) seen,
         told_then o p (expr_breaches scopes (expr_view x.expr.now)) (more_exprs_breaches scopes left) told,
       )
+
+  -- ---- deeds that were put, and those of what is left
+  pub links_done : (xs : List LinkNode) (k : ℕ) (x : LinkNode) → k < length xs → x ≡ get_or xs k x → (old new : List Deed) → new ≡ old ++ expr_deeds scopes (expr_view x.right.now)
+      → new ++ links_deeds scopes (links_of (drop (k + 1) xs)) ≡ old ++ links_deeds scopes (links_of (drop k xs))
+  links_done xs k x within is old new done =
+      let left = links_deeds scopes (links_of (drop (k + 1) xs)) in
+      rw (drop-at xs k x within is) (added_then old new (expr_deeds scopes (expr_view x.right.now)) left done)
+
+  pub posts_done : (xs : List PostNode) (k : ℕ) (x : PostNode) → k < length xs → x ≡ get_or xs k x → (old new : List Deed) → new ≡ old ++ post_deeds scopes (post_view x)
+      → new ++ posts_deeds scopes (posts_of (drop (k + 1) xs)) ≡ old ++ posts_deeds scopes (posts_of (drop k xs))
+  posts_done xs k x within is old new done =
+      let left = posts_deeds scopes (posts_of (drop (k + 1) xs)) in
+      rw (drop-at xs k x within is) (added_then old new (post_deeds scopes (post_view x)) left done)
+
+  pub items_done : (xs : List NextItemNode) (k : ℕ) (x : NextItemNode) → k < length xs → x ≡ get_or xs k x → (old new : List Deed) → new ≡ old ++ item_deeds scopes (item_view x.item)
+      → new ++ more_items_deeds scopes (more_items_of (drop (k + 1) xs)) ≡ old ++ more_items_deeds scopes (more_items_of (drop k xs))
+  items_done xs k x within is old new done =
+      let left = more_items_deeds scopes (more_items_of (drop (k + 1) xs)) in
+      rw (drop-at xs k x within is) (added_then old new (item_deeds scopes (item_view x.item)) left done)
+
+  pub exprs_done : (xs : List NextExprNode) (k : ℕ) (x : NextExprNode) → k < length xs → x ≡ get_or xs k x → (old new : List Deed) → new ≡ old ++ expr_deeds scopes (expr_view x.expr.now)
+      → new ++ more_exprs_deeds scopes (more_exprs_of (drop (k + 1) xs)) ≡ old ++ more_exprs_deeds scopes (more_exprs_of (drop k xs))
+  exprs_done xs k x within is old new done =
+      let left = more_exprs_deeds scopes (more_exprs_of (drop (k + 1) xs)) in
+      rw (drop-at xs k x within is) (added_then old new (expr_deeds scopes (expr_view x.expr.now)) left done)

@@ -2,3 +2,4 @@
 pub mod Forms
 pub mod Built
 pub mod SoFar
+pub mod Inside

@@ -3,12 +3,12 @@
 
 ghost use Rattle.std.specs.Prelude.{◌≡◌, ◌++◌, map, IfOk, OnOk, option_and_then};
 ghost use Rattle.dpl_rules.specs.Types.{scalar_of};
-ghost use Rattle.dpl_rules.specs.Sights.{lookup, type_declared};
 ghost use Rattle.dpl_rules.specs.Sound.{name_and_value as name_and_value_of};
+ghost use Rattle.dpl_scopes.specs.View.{declared_view};
 ghost use Rattle.dpl_given.specs.Words.{word_of, word_in, words_in};
 
 use dpl_limits::{int_in, name_and_value};
-use dpl_scopes::Scopes;
+use dpl_scopes::{Declared, Scopes};
 use dpl_tree::ScalarKind;
 use std::alloc::{AllocError, Global};
 
@@ -22,11 +22,11 @@ fn word_of(kind: ScalarKind, text: &[u8]) -> i64
     }
 }
 
-// The kind of a name's declaration, where it is an int or a bool.
-fn kind_of(scopes: &Scopes<'_>, name: &[u8]) -> Option<ScalarKind>
-    ensures { result ≡ option_and_then scalar_of (type_declared (lookup scopes.now name.now)) }
+// The kind of what is declared, where it is an int or a bool.
+fn kind_of(declared: Declared<'_>) -> Option<ScalarKind>
+    ensures { result ≡ option_and_then scalar_of (declared_view declared.entry).type }
 {
-    scopes.lookup(name)?.value_type?.scalar()
+    declared.value_type?.scalar()
 }
 
 // Puts the word of a set behind those of others.
@@ -36,13 +36,13 @@ fn give(scopes: &Scopes<'_>, set: &[u8], words: &mut Vec<(usize, i64)>) -> Resul
     let Some((name, value)) = name_and_value(set) else {
         return Ok(());
     };
-    let Some(kind) = kind_of(scopes, name) else {
+    let Some(declared) = scopes.lookup(name) else {
         return Ok(());
     };
-    let Some(slot) = scopes.slot(name) else {
+    let Some(kind) = kind_of(declared) else {
         return Ok(());
     };
-    words.push((slot, word_of(kind, value)))?;
+    words.push((declared.slot, word_of(kind, value)))?;
     Ok(())
 }
 

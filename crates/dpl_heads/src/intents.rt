@@ -11,7 +11,7 @@ ghost use Rattle.dpl_tree.specs.Declarations.{optional};
 ghost use Rattle.dpl_tree.specs.Statements.{intent_view, with_view};
 ghost use Rattle.dpl_bound.specs.Sights.{AreKnownScopes};
 ghost use Rattle.dpl_heads.specs.Listed.{intents_in};
-ghost use Rattle.dpl_heads.specs.Made.{reduced_leaves, kept_of, kept_all};
+ghost use Rattle.dpl_heads.specs.Made.{reduced_leaves, kept_at, kept_of, kept_all};
 ghost use Rattle.dpl_heads.specs.Seen.{see, named, intent_name, intent_told, seen_told};
 
 use dpl_nodes::Intent as Reduced;
@@ -78,59 +78,26 @@ fn name_of<'a, 't>(intent: &'a Intent<'t>) -> &'a Name<'t>
     }
 }
 
-// What an intent owes behind those whose names were seen. These stand in a scope of their own.
+// A reduce variable is kept, if it is known; its kind is the operator's.
+fn keep(kept: &mut Vec<Reduced>, op: Op, declared: Option<Declared<'_>>) -> Result<(), AllocError>
+    ensures { OnOk result (map step_intent kept.new.items ≡ map step_intent kept.old.items ++ kept_at op (option_map (λ d. d.slot) declared.entry)) }
+{
+    let Some(declared) = declared else {
+        return Ok(());
+    };
+    let reduced = Reduced {
+        kind: kind_of(op),
+        slot: declared.slot,
+        op,
+    };
+    match kept.push(reduced) {
+        Ok(()) => Ok(()),
+        Err(_) => Err(AllocError),
+    }
+}
+
+// An intent is judged behind those whose names were seen, and kept. These stand in a scope of their own.
 #[tactic(auto, using(dpl_types::proofs::Breaches::least_from_append))]
-fn judged<'t>(
-    scopes: &Scopes<'t>,
-    seen: &mut Scopes<'t>,
-    written: &Intent<'t>,
-    first: &mut Option<Breach>,
-) -> Result<(), AllocError>
-    ensures seen { OnOk result (seen.new ≡ see (named (intent_view written.now)) seen.old) }
-    ensures told { OnOk result (first.new ≡ least_from first.old (intent_told scopes.now seen.old (intent_view written.now))) }
-{
-    let name = name_of(written);
-    owed(
-        !seen.declared_here(name.text),
-        name.at,
-        Code::NameTwice,
-        first,
-    );
-    match written {
-        Intent::Reduce(_, op, _, x) => reduce_intent(*op, x.at, scopes.lookup(x.text), first),
-        Intent::Ref(_, x) => ref_intent(x.at, scopes.lookup(x.text), first),
-    }
-    seen.declare(name.text, Sort::Variable, None)
-}
-
-// A reduce variable is kept; its kind is the operator's.
-fn keep(
-    scopes: &Scopes<'_>,
-    kept: &mut Vec<Reduced>,
-    written: &Intent<'_>,
-) -> Result<(), AllocError>
-    ensures { OnOk result (map step_intent kept.new.items ≡ map step_intent kept.old.items ++ kept_of scopes.now (intent_view written.now)) }
-{
-    match written {
-        Intent::Reduce(_, op, _, x) => {
-            let Some(slot) = scopes.slot(x.text) else {
-                return Ok(());
-            };
-            let reduced = Reduced {
-                kind: kind_of(*op),
-                slot,
-                op: *op,
-            };
-            match kept.push(reduced) {
-                Ok(()) => Ok(()),
-                Err(_) => Err(AllocError),
-            }
-        }
-        Intent::Ref(_, _) => Ok(()),
-    }
-}
-
-// An intent is judged, and kept.
 fn intent<'t>(
     scopes: &Scopes<'t>,
     seen: &mut Scopes<'t>,
@@ -142,10 +109,27 @@ fn intent<'t>(
     ensures told { OnOk result (first.new ≡ least_from first.old (intent_told scopes.now seen.old (intent_view written.now))) }
     ensures kept { OnOk result (map step_intent kept.new.items ≡ map step_intent kept.old.items ++ kept_of scopes.now (intent_view written.now)) }
 {
-    let Ok(()) = judged(scopes, seen, written, first) else {
+    let name = name_of(written);
+    owed(
+        !seen.declared_here(name.text),
+        name.at,
+        Code::NameTwice,
+        first,
+    );
+    let Ok(()) = seen.declare(name.text, Sort::Variable, None) else {
         return Err(AllocError);
     };
-    keep(scopes, kept, written)
+    let declared = scopes.lookup(name.text);
+    match written {
+        Intent::Reduce(_, op, _, _) => {
+            reduce_intent(*op, name.at, declared, first);
+            keep(kept, *op, declared)
+        }
+        Intent::Ref(_, _) => {
+            ref_intent(name.at, declared, first);
+            Ok(())
+        }
+    }
 }
 
 // Further intents.

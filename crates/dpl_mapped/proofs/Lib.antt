@@ -1,3 +1,5 @@
+pub mod Reductions
+pub mod Inner
 pub mod Same
 pub mod Typed
 pub mod Unbroken

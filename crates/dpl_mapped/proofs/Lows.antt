@@ -1,6 +1,6 @@
--- What ends in `low` or `lowBound`, by what stands before that: its type, its breaches, and its tree as it is run.
+-- What ends in `low` or `lowBound`, by what stands before that: its type, its breaches, what it does, and its tree as it is run.
 -- Each lemma is stated of what stands behind a base.
-use Rattle.std.proofs.Common.{◌≡◌, ◌==◌, ℕ, Bool, true, false, List, [], ◌∷◌, ◌++◌, length, Option, Some, None, refl, sym, ap, subst, ◌∙◌, append_assoc, arith}
+use Rattle.std.proofs.Common.{◌≡◌, ◌==◌, ℕ, Bool, true, false, List, [], ◌∷◌, ◌++◌, length, map, Option, Some, None, refl, sym, ap, subst, ◌∙◌, append_assoc, arith}
 use Rattle.std.proofs.lemmas.List.{append-nil}
 use Rattle.std.proofs.lemmas.Option.{none-some}
 use Rattle.std.proofs.lemmas.Bool.Decides.{Decides-eqb}
@@ -12,12 +12,13 @@ use Rattle.dpl_language.specs.Tree.{Word, Size, First, Last, Low, High, LowBound
 use Rattle.dpl_language.specs.Spelled.{HasPosts}
 use Rattle.dpl_agreement.specs.Renamed.{renamed_expr, renamed_posts, renamed_post}
 use Rattle.dpl_tree.specs.declared.expression.Post.{Post as PostNode}
-use Rattle.dpl_tree.specs.View.{post_view, posts_of}
+use Rattle.dpl_tree.specs.View.{expr_view, post_view, posts_of}
 use Rattle.dpl_rules.specs.Types.{ValueType, has, is_int}
 use Rattle.dpl_rules.specs.Verdicts.{type_by, broken_by, with_type}
 use Rattle.dpl_rules.specs.Breaches.{least_from}
 use Rattle.dpl_rules.specs.Places.{first_of, last_of, last_of_post}
 use Rattle.dpl_rules.specs.Sights.{Scopes}
+use Rattle.dpl_rules.specs.Deeds.{base_deeds, expr_deeds, posts_deeds, post_deeds}
 use Rattle.dpl_rules.specs.Operators.{word_verdict}
 use Rattle.dpl_rules.specs.Declarations.{domain_in}
 use Rattle.dpl_rules.specs.Expressions.{bare_locales, locales_or, none_where, type_of, expr_breaches, posts_type, posts_breaches, post_verdict, post_breaches}
@@ -32,6 +33,8 @@ use Rattle.dpl_nodes.specs.Spots.{IsNear}
 use Rattle.dpl_nodes.specs.Steps.{low_word}
 use Rattle.dpl_nodes.specs.Typed.{dotted}
 use Rattle.dpl_spelling.specs.Spelt.{ExprSpelt, PostsSpelt, PostSpelt}
+use Rattle.dpl_deeds.specs.declared.deed.Deed.{Deed as DeedNode}
+use Rattle.dpl_deeds.specs.View.{deed_view, Adds}
 use Rattle.dpl_typed.specs.declared.typed.Typed.{Typed}
 use Rattle.dpl_typed.specs.Leaves.{leaf_in, IsFound}
 use Rattle.dpl_typed.specs.Lowered.{leaves_of, post_leaves, posts_leaves}
@@ -45,7 +48,7 @@ use Rattle.dpl_types.proofs.Breaches.{least_from_append}
 use Rattle.dpl_mapped.specs.declared.low.Low.{Low as LowNode}
 use Rattle.dpl_mapped.specs.declared.low.LowLast.{LowLast}
 use Rattle.dpl_mapped.specs.declared.low.FoundDomain.{FoundDomain}
-use Rattle.dpl_mapped.specs.Told.{standing, bound_word, low_at, low_last_view, dimensions_in, low_told as low_owed, low_verdict, ended_by, ended_told}
+use Rattle.dpl_mapped.specs.Told.{standing, bound_word, low_at, low_last_view, dimensions_in, low_told as low_owed, low_verdict, ended_by, front_tree, front_standing, front_deeds, ended_told}
 use Rattle.dpl_mapped.specs.Made.{IsIntStart, IsEnded, IsStartAs}
 use Rattle.dpl_mapped.proofs.Typed.{postfixed-typed}
 use Rattle.dpl_types.proofs.Unbroken.{unbroken}
@@ -205,12 +208,34 @@ module _ (ss : Scopes) where
       ∙ ap (λ bs. bs ++ int_start rank word (first_of e) (type_by v)) (sym whole)
       ∙ ap (λ t. expr_breaches ss (Postfixed e ps) ++ int_start rank word (first_of e) t) (sym (low-type ps of (low_at x l) is (last_of e) t))
 
-  pub low-told : (rank : Option ℕ) (word : Place) (e : ExprTree Text) (ps : Posts Text) (l : LowLast) → low_of (Postfixed e ps) ≡ low_last_view e (Some l) → posts_of l.behind.now ≡ front_of ps
-      → ended_told ss rank word e l ≡ low_start ss rank word (Postfixed e ps) (low_of (Postfixed e ps))
-  low-told rank word e ps l low front =
-      let of = Postfixed e (posts_of l.behind.now) in
-      ended-start rank word e of ps l.low low (ap (Postfixed e) front) (domain_in (type_of ss of))
-      ∙ ap (low_start ss rank word (Postfixed e ps)) (sym low)
+  pub low-told : (rank : Option ℕ) (word : Place) (s e : ExprTree Text) (ps : Posts Text) (l : LowLast) (o p : Option Breach) → s ≡ Postfixed e ps → expr_view l.base.now ≡ e
+      → low_of (Postfixed (expr_view l.base.now) ps) ≡ low_last_view (expr_view l.base.now) (Some l) → posts_of l.behind.now ≡ front_of ps
+      → p ≡ least_from o (ended_told ss rank word l) → p ≡ least_from o (low_start ss rank word s (low_of s))
+  low-told rank word s e ps l o p whole is low front told =
+      let base = expr_view l.base.now in
+      let of = front_tree l in
+      told ∙ ap (least_from o) (ended-start rank word base of ps l.low low (ap (Postfixed base) front) (domain_in (type_of ss of))
+      ∙ ap (low_start ss rank word (Postfixed base ps)) (sym low)
+      ∙ ap (λ e. low_start ss rank word (Postfixed e ps) (low_of (Postfixed e ps))) is
+      ∙ ap (λ s. low_start ss rank word s (low_of s)) (sym whole))
+
+  -- ---- deeds: `low` itself does nothing
+  low-idle : (ps : Posts Text) (x : ExprTree Text) (k : LowTree) → posts_low ps x ≡ Some k → posts_deeds ss ps ≡ posts_deeds ss (front_of ps)
+  low-idle NoPosts x k e = absurd (none-some k e)
+  low-idle (Post p NoPosts) x k e = append-nil (post_deeds ss p) ∙ ap (post_deeds ss) (low-post p x k e).1
+  low-idle (Post p (Post q rest)) x k e = ap (λ ds. post_deeds ss p ++ ds) (low-idle (Post q rest) x k e)
+
+  pub low-done : (s e : ExprTree Text) (ps : Posts Text) (l : LowLast) (old new : List DeedNode) → s ≡ Postfixed e ps → expr_view l.base.now ≡ e → posts_of l.posts.now ≡ ps
+      → low_of (Postfixed (expr_view l.base.now) ps) ≡ low_last_view (expr_view l.base.now) (Some l) → posts_of l.behind.now ≡ front_of ps
+      → Adds (front_deeds ss l) old new → Adds (expr_deeds ss s) old new
+  low-done s e ps l old new whole is all low front added =
+      let base = expr_view l.base.now in
+      let own = λ (qs : Posts Text). base_deeds ss (base_of base) qs (expr_deeds ss base) in
+      added ∙ ap (λ ds. map deed_view old ++ ds) (ap (λ qs. own qs ++ posts_deeds ss (posts_of l.behind.now)) all
+      ∙ ap (λ qs. own ps ++ posts_deeds ss qs) front
+      ∙ ap (λ ds. own ps ++ ds) (sym (low-idle ps (Postfixed base (front_of ps)) (low_at (front_tree l) l.low) low))
+      ∙ ap (λ e. expr_deeds ss (Postfixed e ps)) is
+      ∙ ap (expr_deeds ss) (sym whole))
 
 -- ---- what is found behind anything but a domain is an int, where nothing was told
 none-known : AreKnown []
@@ -234,31 +259,32 @@ low-int ss e ps of found rank word from at w o p q r front last starts none simp
     int-met rank word from (types_of found) type start.1
 
 -- ---- what is told, behind a domain and behind anything else
-pub domain-told : (ss : Scopes) (rank : Option ℕ) (word : Place) (e : ExprTree Text) (l : LowLast) (d : FoundDomain) (of : Option Typed) (o p q : Option Breach)
-    → Tells (type_of ss (Postfixed e (posts_of l.behind.now))) (expr_breaches ss (Postfixed e (posts_of l.behind.now))) of o p → dimensions_in (Some d) ≡ domain_in (types_of of)
-    → q ≡ least_from p (low_owed rank word d.rank d.strided l.low) → q ≡ least_from o (ended_told ss rank word e l)
-domain-told ss rank word e l d of o p q front is told =
-    let x = Postfixed e (posts_of l.behind.now) in
+pub domain-told : (ss : Scopes) (rank : Option ℕ) (word : Place) (l : LowLast) (d : FoundDomain) (of : Option Typed) (o p q : Option Breach)
+    → Tells (type_of ss (front_tree l)) (expr_breaches ss (front_tree l)) of o p → dimensions_in (Some d) ≡ domain_in (types_of of)
+    → q ≡ least_from p (low_owed rank word d.rank d.strided l.low) → q ≡ least_from o (ended_told ss rank word l)
+domain-told ss rank word l d of o p q front is told =
+    let x = front_tree l in
     let own = low_owed rank word d.rank d.strided l.low in
     told ∙ ap (λ p. least_from p own) front.1 ∙ sym (least_from_append o (expr_breaches ss x) own)
-    ∙ ap (λ d. least_from o (expr_breaches ss x ++ ended_by rank word (first_of e) l.low (type_of ss x) d)) (is ∙ ap domain_in front.0)
+    ∙ ap (λ d. least_from o (expr_breaches ss x ++ ended_by rank word (first_of (expr_view l.base.now)) l.low (type_of ss x) d)) (is ∙ ap domain_in front.0)
 
-pub int-told : (ss : Scopes) (rank : Option ℕ) (word from : Place) (e : ExprTree Text) (l : LowLast) (w : Word) (of found : Option Typed) (o p q r : Option Breach)
-    → Tells (type_of ss (Postfixed e (posts_of l.behind.now))) (expr_breaches ss (Postfixed e (posts_of l.behind.now))) of o p → dimensions_in None ≡ domain_in (types_of of) → w ≡ bound_word l.low.bound
-    → Tells (type_by (with_type (types_of of) (word_verdict l.low.at w))) (broken_by (with_type (types_of of) (word_verdict l.low.at w))) found p q → from ≡ first_of e
-    → r ≡ least_from q (int_start rank word from (types_of found)) → r ≡ least_from o (ended_told ss rank word e l)
-int-told ss rank word from e l w of found o p q r front is called last at told =
-    let x = Postfixed e (posts_of l.behind.now) in
+pub int-told : (ss : Scopes) (rank : Option ℕ) (word from : Place) (l : LowLast) (w : Word) (of found : Option Typed) (o p q r : Option Breach)
+    → Tells (type_of ss (front_tree l)) (expr_breaches ss (front_tree l)) of o p → dimensions_in None ≡ domain_in (types_of of) → w ≡ bound_word l.low.bound
+    → Tells (type_by (with_type (types_of of) (word_verdict l.low.at w))) (broken_by (with_type (types_of of) (word_verdict l.low.at w))) found p q → from ≡ first_of (expr_view l.base.now)
+    → r ≡ least_from q (int_start rank word from (types_of found)) → r ≡ least_from o (ended_told ss rank word l)
+int-told ss rank word from l w of found o p q r front is called last at told =
+    let x = front_tree l in
+    let begun = first_of (expr_view l.base.now) in
     let v = low_verdict l.low (type_of ss x) in
     let verdict = ap (λ w. with_type (types_of of) (word_verdict l.low.at w)) called ∙ ap (low_verdict l.low) front.0 in
-    let int = int_start rank word (first_of e) (type_by v) in
+    let int = int_start rank word begun (type_by v) in
     told
     ∙ ap (λ at. least_from q (int_start rank word at (types_of found))) at
-    ∙ ap (λ t. least_from q (int_start rank word (first_of e) t)) (last.0 ∙ ap type_by verdict)
+    ∙ ap (λ t. least_from q (int_start rank word begun t)) (last.0 ∙ ap type_by verdict)
     ∙ ap (λ q. least_from q int) (last.1 ∙ ap (λ v. least_from p (broken_by v)) verdict ∙ ap (λ p. least_from p (broken_by v)) front.1)
     ∙ sym (least_from_append (least_from o (expr_breaches ss x)) (broken_by v) int)
     ∙ sym (least_from_append o (expr_breaches ss x) (broken_by v ++ int))
-    ∙ ap (λ d. least_from o (expr_breaches ss x ++ ended_by rank word (first_of e) l.low (type_of ss x) d)) (is ∙ ap domain_in front.0)
+    ∙ ap (λ d. least_from o (expr_breaches ss x ++ ended_by rank word begun l.low (type_of ss x) d)) (is ∙ ap domain_in front.0)
 
 -- ---- what is made
 pub ended-int : (ss : Scopes) (e : ExprTree Text) (l : LowNode) (w : Word) (found : Option Typed) (r : Option StartNode) → w ≡ bound_word l.bound → has is_int (types_of found) ≡ true
@@ -342,12 +368,16 @@ started ss e x ps k l (Some s) low at bound simple h =
     h ∙ ap (λ at. StartExpr (dotted of (Plainly at (bound_word l.bound)))) (sym at) ∙ ap (λ b. StartExpr (dotted of (Plainly k.at (bound_word b)))) (sym bound)
     ∙ ap StartExpr (sym (low-leaves ss (IsFound ss) e ps x k low simple))
 
-pub low-started : (ss : Scopes) (e : ExprTree Text) (ps : Posts Text) (l : LowLast) (r : Option StartNode) → low_of (Postfixed e ps) ≡ low_last_view e (Some l) → posts_of l.behind.now ≡ front_of ps
-    → (IsNear l.low.at → IsSimple (IsFound ss) (standing e (posts_of l.behind.now)) → ExprSpelt IsNear ⊥ (standing e (posts_of l.behind.now)) → IsEnded ss (standing e (posts_of l.behind.now)) l.low r)
+pub low-started : (ss : Scopes) (e : ExprTree Text) (ps : Posts Text) (l : LowLast) (r : Option StartNode) → expr_view l.base.now ≡ e
+    → low_of (Postfixed (expr_view l.base.now) ps) ≡ low_last_view (expr_view l.base.now) (Some l) → posts_of l.behind.now ≡ front_of ps
+    → (IsNear l.low.at → IsSimple (IsFound ss) (front_standing l) → ExprSpelt IsNear ⊥ (front_standing l) → IsEnded ss (front_standing l) l.low r)
     → IsSimple (IsFound ss) (Postfixed e ps) → ExprSpelt IsNear ⊥ (Postfixed e ps) → IsStartAs ss (StartExpr (Postfixed e ps)) r
-low-started ss e ps l r low front made simple near =
-    let k = low_at (Postfixed e (posts_of l.behind.now)) l.low in
-    let before = subst (λ qs. IsSimple (IsFound ss) (standing e qs)) (sym front) (standing-simple (IsFound ss) e (front_of ps) simple.0 (front-simple (IsFound ss) ps simple.1)) in
-    let spelt = subst (λ qs. ExprSpelt IsNear ⊥ (standing e qs)) (sym front) (standing-spelt e (front_of ps) near.1 (front-spelt ps near.2)) in
-    started ss e (Postfixed e (front_of ps)) ps k l.low r low refl refl simple.1
-    (subst (λ qs. IsEnded ss (standing e qs) l.low r) front (made (low-near ps (Postfixed e (front_of ps)) k low near.2) before spelt))
+low-started ss e ps l r is low front made =
+    let base = expr_view l.base.now in
+    let k = low_at (front_tree l) l.low in
+    let of = Postfixed base (front_of ps) in
+    subst (λ e. IsSimple (IsFound ss) (Postfixed e ps) → ExprSpelt IsNear ⊥ (Postfixed e ps) → IsStartAs ss (StartExpr (Postfixed e ps)) r) is
+    (λ simple near.
+    let before = subst (λ qs. IsSimple (IsFound ss) (standing base qs)) (sym front) (standing-simple (IsFound ss) base (front_of ps) simple.0 (front-simple (IsFound ss) ps simple.1)) in
+    let spelt = subst (λ qs. ExprSpelt IsNear ⊥ (standing base qs)) (sym front) (standing-spelt base (front_of ps) near.1 (front-spelt ps near.2)) in
+    started ss base of ps k l.low r low refl refl simple.1 (subst (λ qs. IsEnded ss (standing base qs) l.low r) front (made (low-near ps of k low near.2) before spelt)))

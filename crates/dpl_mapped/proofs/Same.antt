@@ -1,19 +1,23 @@
 -- Expressions in two sights in which their names stand for the same declarations: they have the same types and the same breaches.
 -- Each lemma is stated of a part of an expression, with both.
-use Rattle.std.proofs.Common.{◌≡◌, ◌++◌, true, List, [], ◌∷◌, Option, Some, None, refl, ap, ◌∙◌}
+use Rattle.std.proofs.Common.{◌≡◌, ◌++◌, Bool, true, false, List, [], ◌∷◌, Option, Some, None, refl, ap, ◌∙◌}
+use Rattle.std.specs.Prelude.{◌||◌}
 use Rattle.dpl_syntax.specs.declared.place.Place.{Place}
 use Rattle.dpl_syntax.specs.declared.refusal.Breach.{Breach}
 use Rattle.dpl_language.specs.Names.{Text}
 use Rattle.dpl_language.specs.Tree.{ExprTree, Number, TruthWord, Named, LocalesWord, LocaleCount, HereWord, Grouped, DomainLiteral, Prefixed, Reduced, Chain, Postfixed, ItemTree, One, RangeItem, Stride, NoStride, By, Links, NoLinks, Link, Posts, NoPosts, Post, PostTree, Brackets, Rounds, Dotted, MethodTree, Plainly, Dim, Contains, Expand, CellRead, Items, FirstItem, MoreItems, NoItems, NextItem, Exprs, FirstExpr, MoreExprs, NoExprs, NextExpr}
-use Rattle.dpl_rules.specs.Types.{ValueType, domain_of}
+use Rattle.dpl_rules.specs.Types.{ValueType, domain_of, is_promoted, has}
 use Rattle.dpl_rules.specs.Verdicts.{Part, part, Verdict, type_by, broken_by, with_type}
 use Rattle.dpl_rules.specs.Places.{first_of, first_of_item, last_of, last_of_post}
 use Rattle.dpl_rules.specs.Sights.{Scopes, lookup}
 use Rattle.dpl_rules.specs.Operators.{prefix_verdict, reduction_verdict, infix_verdict, range_verdict, ranges_verdict, square_verdict, round_verdict, index_rank, contains_verdict, expand_verdict}
 use Rattle.dpl_rules.specs.Expressions.{name_verdict, bare_locales, locales_or, none_where, type_of, item_type, range_item_verdict, chain_type, posts_type, post_verdict, method_verdict}
+use Rattle.dpl_rules.specs.Deeds.{inner_reductions}
+use Rattle.dpl_rules.specs.Expressions.{pair_type, has_promoted_pair, inner_deeds, inner_links, inner_chain}
 use Rattle.dpl_rules.specs.Expressions.{item_parts, more_item_parts, expr_parts, more_expr_parts, expr_breaches, item_breaches, stride_breaches, chain_breaches, posts_breaches, post_breaches, method_breaches}
 use Rattle.dpl_rules.specs.Expressions.{items_breaches, more_items_breaches, exprs_breaches, more_exprs_breaches}
 use Rattle.dpl_typed.specs.Simple.{IsSimple, IsSimpleItem, IsSimpleStride, AreSimpleLinks, AreSimplePosts, IsSimplePost, IsSimpleMethod, AreSimpleItems, AreSimpleMoreItems, AreSimpleExprs, AreSimpleMoreExprs}
+use Rattle.dpl_mapped.proofs.Reductions.{AreAlike, both-alike, expr-alike}
 
 joined : (xs ys cs ds : List Breach) → xs ≡ ys → cs ≡ ds → xs ++ cs ≡ ys ++ ds
 joined xs ys cs ds e f = ap (λ zs. zs ++ cs) e ∙ ap (λ zs. ys ++ zs) f
@@ -34,7 +38,9 @@ module _ (Holds : Text → Type 0) (ss us : Scopes) (same : (x : Text) → Holds
   SameStride by = ((p q : Part) → range_item_verdict us p q by ≡ range_item_verdict ss p q by) × (stride_breaches us by ≡ stride_breaches ss by)
 
   abbrev SameLinks : Option ValueType → Links Text → Type 0
-  SameLinks t ls = (chain_type us t ls ≡ chain_type ss t ls) × (chain_breaches us t ls ≡ chain_breaches ss t ls)
+  SameLinks t ls =
+      (chain_type us t ls ≡ chain_type ss t ls) × (chain_breaches us t ls ≡ chain_breaches ss t ls)
+      × (has_promoted_pair us t ls ≡ has_promoted_pair ss t ls) × AreAlike (inner_links us t ls) (inner_links ss t ls)
 
   abbrev SamePosts : Place → Option ValueType → Posts Text → Type 0
   SamePosts last t ps = (posts_type us last t ps ≡ posts_type ss last t ps) × (posts_breaches us last t ps ≡ posts_breaches ss last t ps)
@@ -64,6 +70,11 @@ module _ (Holds : Text → Type 0) (ss us : Scopes) (same : (x : Text) → Holds
         (posts_breaches us (last_of e) (locales_or (bare_locales e) (type_of us e)) ps) (posts_breaches ss (last_of e) (locales_or (bare_locales e) (type_of ss e)) ps)
         (ap (none_where (bare_locales e)) s.1) (ap (λ t. posts_breaches us (last_of e) (locales_or (bare_locales e) t) ps) s.0 ∙ r.1),
   )
+
+  -- an operand does the same reductions in a pair that is promoted in both sights, and in one that is promoted in neither
+  inner-same : (b c : Bool) (e : ExprTree Text) → b ≡ c → AreAlike (inner_deeds us b e) (inner_deeds ss c e)
+  inner-same b true e h = ap (λ b. inner_reductions (inner_deeds us b e)) h ∙ expr-alike us ss e
+  inner-same b false e h = ap (λ b. inner_reductions (inner_deeds us b e)) h
 
   mutual
     pub expr-same : (e : ExprTree Text) → IsSimple Holds e → SameExpr e
@@ -97,8 +108,14 @@ module _ (Holds : Text → Type 0) (ss us : Scopes) (same : (x : Text) → Holds
         let s = expr-same e h.0 in
         let r = links-same rest (type_of ss e) h.1 in (
           ap (λ t. chain_type us t rest) s.0 ∙ r.0,
-          joined (expr_breaches us e) (expr_breaches ss e) (chain_breaches us (type_of us e) rest) (chain_breaches ss (type_of ss e) rest)
-              s.1 (ap (λ t. chain_breaches us t rest) s.0 ∙ r.1),
+          joined (expr_breaches us e ++ chain_breaches us (type_of us e) rest) (expr_breaches ss e ++ chain_breaches ss (type_of ss e) rest)
+              (inner_reductions (inner_chain us e rest)) (inner_reductions (inner_chain ss e rest))
+              (joined (expr_breaches us e) (expr_breaches ss e) (chain_breaches us (type_of us e) rest) (chain_breaches ss (type_of ss e) rest)
+              s.1 (ap (λ t. chain_breaches us t rest) s.0 ∙ r.1))
+              (both-alike (inner_deeds us (has_promoted_pair us (type_of us e) rest) e) (inner_deeds ss (has_promoted_pair ss (type_of ss e) rest) e)
+              (inner_links us (type_of us e) rest) (inner_links ss (type_of ss e) rest)
+              (inner-same (has_promoted_pair us (type_of us e) rest) (has_promoted_pair ss (type_of ss e) rest) e (ap (λ t. has_promoted_pair us t rest) s.0 ∙ r.2))
+              (ap (λ t. inner_reductions (inner_links us t rest)) s.0 ∙ r.3)),
         )
     expr-same (Postfixed e posts) h =
         postfixed-by e posts (expr-same e h.0) (posts-same posts (last_of e) (locales_or (bare_locales e) (type_of ss e)) h.1)
@@ -127,17 +144,23 @@ module _ (Holds : Text → Type 0) (ss us : Scopes) (same : (x : Text) → Holds
         (λ p q. ap (λ t. range_verdict (p ∷ q ∷ part (first_of e) t ∷ []) true) s.0, s.1)
 
     links-same : (ls : Links Text) (t : Option ValueType) → AreSimpleLinks Holds ls → SameLinks t ls
-    links-same NoLinks t h = (refl, refl)
+    links-same NoLinks t h = (refl, refl, refl, refl)
     links-same (Link at op e rest) t h =
         let s = expr-same e h.0 in
         let v = infix_verdict at op t (type_of ss e) in
         let verdict = ap (infix_verdict at op t) s.0 in
-        let r = links-same rest (type_by v) h.1 in (
+        let r = links-same rest (type_by v) h.1 in
+        let promoted = ap (λ v. has is_promoted (type_by v) || has_promoted_pair us (type_by v) rest) verdict ∙ ap (λ b. has is_promoted (type_by v) || b) r.2 in (
           ap (λ v. chain_type us (type_by v) rest) verdict ∙ r.0,
           joined (expr_breaches us e ++ broken_by (infix_verdict at op t (type_of us e))) (expr_breaches ss e ++ broken_by v)
               (chain_breaches us (type_by (infix_verdict at op t (type_of us e))) rest) (chain_breaches ss (type_by v) rest)
               (joined (expr_breaches us e) (expr_breaches ss e) (broken_by (infix_verdict at op t (type_of us e))) (broken_by v) s.1 (ap broken_by verdict))
               (ap (λ v. chain_breaches us (type_by v) rest) verdict ∙ r.1),
+          promoted,
+          both-alike (inner_deeds us (has_promoted_pair us t (Link at op e rest)) e) (inner_deeds ss (has_promoted_pair ss t (Link at op e rest)) e)
+              (inner_links us (pair_type us t at op e) rest) (inner_links ss (pair_type ss t at op e) rest)
+              (inner-same (has_promoted_pair us t (Link at op e rest)) (has_promoted_pair ss t (Link at op e rest)) e promoted)
+              (ap (λ v. inner_reductions (inner_links us (type_by v) rest)) verdict ∙ r.3),
         )
 
     posts-same : (ps : Posts Text) (last : Place) (t : Option ValueType) → AreSimplePosts Holds ps → SamePosts last t ps

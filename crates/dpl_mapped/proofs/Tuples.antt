@@ -1,4 +1,4 @@
--- Tuples: their expressions as arguments, told part by part, and the index that they are.
+-- Tuples: their expressions as arguments, told part by part, what they do, and the index that they are.
 -- Parts may be told all before their types are asked: the first breach is the same.
 use Rattle.std.proofs.Common.{◌≡◌, ◌≢◌, ◌<◌, ℕ, suc, Bool, true, false, ◌&&◌, List, [], ◌∷◌, ◌++◌, length, map, Bor, Option, Some, None, refl, sym, ap, subst, ◌∙◌, arith}
 use Rattle.std.specs.Prelude.{◌||◌, option_map}
@@ -16,6 +16,7 @@ use Rattle.dpl_rules.specs.Verdicts.{Part, owed_type, each_wanted, all_known}
 use Rattle.dpl_rules.specs.Breaches.{least_from}
 use Rattle.dpl_rules.specs.Places.{first_of}
 use Rattle.dpl_rules.specs.Sights.{Scopes}
+use Rattle.dpl_rules.specs.Deeds.{expr_deeds, exprs_deeds, more_exprs_deeds, all_deeds, start_deeds}
 use Rattle.dpl_rules.specs.Expressions.{type_of, expr_parts, more_expr_parts, expr_breaches, exprs_breaches, more_exprs_breaches}
 use Rattle.dpl_rules.specs.Maps.{owed_rank, int_breaches, start_breaches}
 use Rattle.dpl_rules.proofs.First.{least_from_swap}
@@ -107,6 +108,15 @@ module _ (ss : Scopes) where
       → p ≡ least_from o (tuple_told ss rank word es) → p ≡ least_from o (start_breaches ss rank word s)
   tuple-start-told rank word from upto xs es s o p is written told =
       told ∙ ap (λ es. least_from o (tuple_told ss rank word es)) is ∙ tuple-breaches rank word from upto xs o ∙ ap (λ s. least_from o (start_breaches ss rank word s)) (sym written)
+
+  -- ---- what a tuple does, as its expressions do
+  more-done : (xs : List (AfterComma (ExprTree Text))) → more_exprs_deeds ss (more_exprs xs) ≡ all_deeds ss (map {A = AfterComma (ExprTree Text)} {B = ExprTree Text} (λ x. x.part) xs)
+  more-done [] = refl
+  more-done (x ∷ xs) = ap (λ ds. expr_deeds ss x.part ++ ds) (more-done xs)
+
+  pub tuple-start-done : (from upto : Place) (xs : Listed (ExprTree Text)) (es : Exprs Text) (s : StartTree Text) → es ≡ tuple_exprs xs → s ≡ StartTuple from xs upto → exprs_deeds ss es ≡ start_deeds ss s
+  tuple-start-done from upto xs es s is written =
+      ap (exprs_deeds ss) is ∙ ap (λ ds. expr_deeds ss xs.first ++ ds) (more-done xs.others) ∙ ap (start_deeds ss) (sym written)
 
 -- ---- parts that are ints are an index
 both-true : (a b : Bool) → (a && b) ≡ true → a ≡ true

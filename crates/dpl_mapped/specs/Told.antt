@@ -5,12 +5,14 @@ use Rattle.dpl_syntax.specs.declared.place.Place.{Place}
 use Rattle.dpl_syntax.specs.declared.refusal.Breach.{Breach}
 use Rattle.dpl_syntax.specs.declared.refusal.Code.TheVariants.{WrongType}
 use Rattle.dpl_language.specs.Names.{Text}
+use Rattle.dpl_language.specs.Phrases.{base_of}
 use Rattle.dpl_language.specs.Tree.{Word, Low, LowBound, ExprTree, Postfixed, Posts, NoPosts, Post, Exprs}
-use Rattle.dpl_tree.specs.View.{posts_of}
+use Rattle.dpl_tree.specs.View.{expr_view, posts_of}
 use Rattle.dpl_rules.specs.Types.{ValueType, is_int}
 use Rattle.dpl_rules.specs.Verdicts.{Verdict, type_by, broken_by, breach, with_type, each_wanted}
 use Rattle.dpl_rules.specs.Places.{first_of}
 use Rattle.dpl_rules.specs.Sights.{Scopes}
+use Rattle.dpl_rules.specs.Deeds.{Deed, base_deeds, expr_deeds, posts_deeds}
 use Rattle.dpl_rules.specs.Operators.{word_verdict}
 use Rattle.dpl_rules.specs.Declarations.{domain_in}
 use Rattle.dpl_rules.specs.Expressions.{type_of, expr_parts, expr_breaches, exprs_breaches}
@@ -59,10 +61,22 @@ abbrev pub ended_by : Option ℕ → Place → Place → LowNode → Option Valu
 ended_by rank word at l t None = broken_by (low_verdict l t) ++ int_start rank word at (type_by (low_verdict l t))
 ended_by rank word at l t (Some d) = low_told rank word d.0 d.1 l
 
-abbrev pub ended_told : Scopes → Option ℕ → Place → ExprTree Text → LowLast → List Breach
-ended_told scopes rank word e l =
-    let of = Postfixed e (posts_of l.behind.now) in
-    expr_breaches scopes of ++ ended_by rank word (first_of e) l.low (type_of scopes of) (domain_in (type_of scopes of))
+-- what stands before it, behind a base, and as it stands for itself; what that does goes by all that stands behind the base
+abbrev pub front_tree : LowLast → ExprTree Text
+front_tree l = Postfixed (expr_view l.base.now) (posts_of l.behind.now)
+
+abbrev pub front_standing : LowLast → ExprTree Text
+front_standing l = standing (expr_view l.base.now) (posts_of l.behind.now)
+
+abbrev pub front_deeds : Scopes → LowLast → List Deed
+front_deeds scopes l =
+    let e = expr_view l.base.now in
+    base_deeds scopes (base_of e) (posts_of l.posts.now) (expr_deeds scopes e) ++ posts_deeds scopes (posts_of l.behind.now)
+
+abbrev pub ended_told : Scopes → Option ℕ → Place → LowLast → List Breach
+ended_told scopes rank word l =
+    let of = front_tree l in
+    expr_breaches scopes of ++ ended_by rank word (first_of (expr_view l.base.now)) l.low (type_of scopes of) (domain_in (type_of scopes of))
 
 -- a tuple of ints, as many as the rank
 abbrev pub tuple_told : Scopes → Option ℕ → Place → Exprs Text → List Breach

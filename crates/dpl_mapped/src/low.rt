@@ -1,7 +1,7 @@
 // `X.low` and `X.lowBound` where a map starts: the least members of a domain, or an int as any other.
 // What stands before that word is judged and made once.
 
-ghost use Rattle.std.specs.Prelude.{◌≡◌, None, IfOk, IfSome};
+ghost use Rattle.std.specs.Prelude.{◌≡◌, None, IfOk, OnOk, IfSome};
 ghost use Rattle.dpl_language.specs.Names.{Text};
 ghost use Rattle.dpl_language.specs.Tree.{ExprTree, Plainly, Postfixed as PostfixedTree, StartExpr as StartExprTree};
 ghost use Rattle.dpl_memory.specs.Memory.{Variable};
@@ -12,17 +12,20 @@ ghost use Rattle.dpl_rules.specs.Breaches.{least_from};
 ghost use Rattle.dpl_rules.specs.Declarations.{domain_in as domain_in_of};
 ghost use Rattle.dpl_rules.specs.Expressions.{type_of, expr_breaches};
 ghost use Rattle.dpl_rules.specs.Maps.{post_low, front_of, low_of};
-ghost use Rattle.dpl_tree.specs.View.{expr_view, post_view, posts_of};
+ghost use Rattle.dpl_tree.specs.View.{post_view, posts_of};
+ghost use Rattle.dpl_deeds.specs.View.{Adds};
 ghost use Rattle.dpl_typed.specs.Lowered.{leaves_of};
 ghost use Rattle.dpl_typed.specs.Stands.{StandsFor, IsArgument};
 ghost use Rattle.dpl_typed.specs.Told.{Tells};
 ghost use Rattle.dpl_typed.specs.Typed.{types_of};
 ghost use Rattle.dpl_typed.specs.Where.{WhereSimple};
-ghost use Rattle.dpl_mapped.specs.Told.{standing, bound_word, low_view, low_last_view, dimensions_in, low_told, ended_told};
+ghost use Rattle.dpl_mapped.specs.Told.{bound_word, low_view, low_last_view, dimensions_in, low_told, ended_told};
+ghost use Rattle.dpl_mapped.specs.Told.{front_tree, front_standing, front_deeds};
 ghost use Rattle.dpl_mapped.specs.Made.{IsEnded};
 
 use crate::rank::{int_start, owed_rank};
 use dpl_brackets::method;
+use dpl_deeds::Deed;
 use dpl_elaborator::expression::{base, posts};
 use dpl_nodes::{DomainExpr, StartExpr};
 use dpl_scopes::Scopes;
@@ -41,9 +44,11 @@ pub(crate) struct Low {
     pub bound: bool,
 }
 
-/// What stands behind a base and ends in `low` or `lowBound`.
+/// A base, all that stands behind it, and that without the last, which is `low` or `lowBound`.
 #[derive(Clone, Copy)]
 pub(crate) struct LowLast<'a, 't> {
+    pub base: &'a Expr<'t>,
+    pub posts: &'a [Post<'t>],
     pub behind: &'a [Post<'t>],
     pub low: Low,
 }
@@ -84,14 +89,21 @@ fn low_end(post: &Post<'_>) -> Option<Low>
     }
 }
 
-/// What stands before the last behind a base, and that last, where it is `low` or `lowBound`.
-pub(crate) fn ends_low<'a, 't>(posts: &'a [Post<'t>]) -> Option<LowLast<'a, 't>>
+/// A base with what stands behind it, where the last of that is `low` or `lowBound`.
+pub(crate) fn ends_low<'a, 't>(base: &'a Expr<'t>, posts: &'a [Post<'t>]) -> Option<LowLast<'a, 't>>
     ensures low { (e : ExprTree Text) → low_of (PostfixedTree e (posts_of posts.now)) ≡ low_last_view e result }
     ensures front { IfSome result (λ l. posts_of l.behind.now ≡ front_of (posts_of posts.now)) }
+    ensures base { IfSome result (λ l. l.base.now ≡ base.now) }
+    ensures posts { IfSome result (λ l. l.posts.now ≡ posts.now) }
 {
     let (last, behind) = posts.split_last()?;
     let low = low_end(last)?;
-    Some(LowLast { behind, low })
+    Some(LowLast {
+        base,
+        posts,
+        behind,
+        low,
+    })
 }
 
 // The word.
@@ -101,28 +113,29 @@ fn low_word(bound: bool) -> Word
     if bound { Word::LowBound } else { Word::Low }
 }
 
-// What stands before it: a base, and what is behind the base, if anything is.
+// What stands before it: a base, and what is behind the base, if anything is. The base does what it does by all that is behind it.
 #[tactic(auto, using(dpl_types::proofs::Breaches::least_from_append))]
 fn front<'t>(
     arena: Arena<'t>,
     scopes: &Scopes<'t>,
-    before: &Expr<'_>,
-    behind: &[Post<'_>],
+    ends: LowLast<'_, '_>,
+    deeds: &mut Vec<Deed<'t>>,
     first: &mut Option<Breach>,
 ) -> Made<'t>
-    ensures told { IfOk result (λ r. Tells (type_of scopes.now (PostfixedTree (expr_view before.now) (posts_of behind.now)))
-        (expr_breaches scopes.now (PostfixedTree (expr_view before.now) (posts_of behind.now))) r first.old first.new) }
-    ensures node { IfOk result (λ r. WhereSimple scopes.now (standing (expr_view before.now) (posts_of behind.now))
-        (StandsFor r (λ m. leaves_of scopes.now m (standing (expr_view before.now) (posts_of behind.now))))) }
+    ensures told { IfOk result (λ r. Tells (type_of scopes.now (front_tree ends.entry)) (expr_breaches scopes.now (front_tree ends.entry)) r
+        first.old first.new) }
+    ensures node { IfOk result (λ r. WhereSimple scopes.now (front_standing ends.entry)
+        (StandsFor r (λ m. leaves_of scopes.now m (front_standing ends.entry)))) }
+    ensures deeds { OnOk result (Adds (front_deeds scopes.now ends.entry) deeds.old.items deeds.new.items) }
 {
-    let Ok(t) = base(arena, scopes, before, first) else {
+    let Ok(t) = base(arena, scopes, ends.base, ends.posts, deeds, first) else {
         return Err(AllocError);
     };
-    if behind.is_empty() {
+    if ends.behind.is_empty() {
         return Ok(t);
     }
-    let last = last_of(before);
-    posts(arena, scopes, last, t, behind, first)
+    let last = last_of(ends.base);
+    posts(arena, scopes, last, t, ends.behind, deeds, first)
 }
 
 // The domain that was found, if it is one.
@@ -192,22 +205,22 @@ fn least<'t>(
 /// What ends in `low` or `lowBound`, as where a map starts: a domain's, or an int.
 ///
 /// # Errors
-/// Out of memory; of what was told then nothing is said.
+/// Out of memory; of what was told and done then nothing is said.
 pub(crate) fn low_start<'t>(
     arena: Arena<'t>,
     scopes: &Scopes<'t>,
     rank: Option<usize>,
     word: Place,
-    before: &Expr<'_>,
     ends: LowLast<'_, '_>,
+    deeds: &mut Vec<Deed<'t>>,
     first: &mut Option<Breach>,
 ) -> Result<Option<StartExpr<'t>>, AllocError>
-    ensures told { IfOk result (λ r. first.new ≡ least_from first.old (ended_told scopes.now rank word (expr_view before.now) ends.entry)) }
-    ensures node { IfOk result (λ r. first.new ≡ None → IsNear ends.entry.low.at
-        → WhereSimple scopes.now (standing (expr_view before.now) (posts_of ends.entry.behind.now))
-        (IsEnded scopes.now (standing (expr_view before.now) (posts_of ends.entry.behind.now)) ends.entry.low r)) }
+    ensures told { IfOk result (λ r. first.new ≡ least_from first.old (ended_told scopes.now rank word ends.entry)) }
+    ensures node { IfOk result (λ r. first.new ≡ None → IsNear ends.entry.low.at → WhereSimple scopes.now (front_standing ends.entry)
+        (IsEnded scopes.now (front_standing ends.entry) ends.entry.low r)) }
+    ensures deeds { OnOk result (Adds (front_deeds scopes.now ends.entry) deeds.old.items deeds.new.items) }
 {
-    let Ok(of) = front(arena, scopes, before, ends.behind, first) else {
+    let Ok(of) = front(arena, scopes, ends, deeds, first) else {
         return Err(AllocError);
     };
     match domain_in(of) {
@@ -224,7 +237,7 @@ pub(crate) fn low_start<'t>(
                 return Err(AllocError);
             };
             let part = Part {
-                at: first_of(before),
+                at: first_of(ends.base),
                 found,
             };
             int_start(arena, rank, word, part, first)

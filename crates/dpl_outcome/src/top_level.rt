@@ -41,9 +41,8 @@ fn found(scopes: &Scopes<'_>, name: &[u8], frame: &Frame) -> Option<Kept>
     ensures none { IfNone result (held_by (type_in scopes.now name.now) (slot_in scopes.now name.now) frame.now.memory
         ≡ value_held (int_leaf 0) frame.now.memory) }
 {
-    let value_type = scopes.lookup(name)?.value_type?;
-    let slot = scopes.slot(name)?;
-    Some(held(value_type, slot, frame))
+    let declared = scopes.lookup(name)?;
+    Some(held(declared.value_type?, declared.slot, frame))
 }
 
 // A name with what it holds.

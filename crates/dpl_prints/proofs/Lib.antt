@@ -1,3 +1,4 @@
 pub mod Showing
 pub mod Unbroken
 pub mod Printing
+pub mod Doing

@@ -1,17 +1,19 @@
 // What may be printed: texts, ints, bools, arrays by their names and, outside tasks, cell reads.
 // Anything else is C3 at its first token.
 
-ghost use Rattle.std.specs.Prelude.{◌≡◌, None, IfOk};
+ghost use Rattle.std.specs.Prelude.{◌≡◌, None, IfOk, OnOk};
 ghost use Rattle.dpl_language.specs.Phrases.{bare_name as bare_name_of};
 ghost use Rattle.dpl_language.specs.Tree.{ExprArgument};
 ghost use Rattle.dpl_lowered.specs.LoweredExpressions.{Once};
 ghost use Rattle.dpl_rules.specs.Assignments.{is_printed};
 ghost use Rattle.dpl_rules.specs.Breaches.{least_from};
+ghost use Rattle.dpl_rules.specs.Deeds.{expr_deeds};
 ghost use Rattle.dpl_rules.specs.Types.{ValueType};
 ghost use Rattle.dpl_syntax.specs.Text.{text_value};
 ghost use Rattle.dpl_tree.specs.Statements.{argument_view};
 ghost use Rattle.dpl_tree.specs.View.{expr_view};
 ghost use Rattle.dpl_types.specs.Wants.{takes};
+ghost use Rattle.dpl_deeds.specs.View.{Adds};
 ghost use Rattle.dpl_typed.specs.Lowered.{leaves_of};
 ghost use Rattle.dpl_typed.specs.Stands.{IsArgument};
 ghost use Rattle.dpl_typed.specs.Told.{TellsPart};
@@ -20,8 +22,10 @@ ghost use Rattle.dpl_bound.specs.Sights.{AreKnownScopes};
 ghost use Rattle.dpl_prints.specs.Plain.{IsPlainArgument};
 ghost use Rattle.dpl_prints.specs.Told.{argument_part_in, argument_in, argument_told};
 ghost use Rattle.dpl_prints.specs.Made.{shown_of, IsArgumentAs};
+ghost use Rattle.dpl_prints.specs.Done.{argument_deeds};
 
 use dpl_assignments::side::side;
+use dpl_deeds::Deed;
 use dpl_elaborator::expression::part;
 use dpl_lexer::text_bytes;
 use dpl_nodes::step::Argument as Shown;
@@ -49,16 +53,18 @@ fn printed_part<'t>(
     scopes: &Scopes<'t>,
     in_task: bool,
     e: &Expr<'_>,
+    deeds: &mut Vec<Deed<'t>>,
     first: &mut Option<Breach>,
 ) -> Result<Part<'t>, AllocError>
     ensures told { IfOk result (λ p. TellsPart (argument_part_in scopes.now in_task (expr_view e.now))
         (argument_in scopes.now in_task (expr_view e.now)) p first.old first.new) }
     ensures node { IfOk result (λ p. WhereSimple scopes.now (expr_view e.now) (IsArgument p.found (leaves_of scopes.now Once (expr_view e.now)))) }
+    ensures deeds { OnOk result (Adds (expr_deeds scopes.now (expr_view e.now)) deeds.old.items deeds.new.items) }
 {
     if in_task {
-        part(arena, scopes, e, first)
+        part(arena, scopes, e, deeds, first)
     } else {
-        side(arena, scopes, &Item::One(e), first)
+        side(arena, scopes, &Item::One(e), deeds, first)
     }
 }
 
@@ -101,13 +107,15 @@ fn value<'t>(
     scopes: &Scopes<'t>,
     in_task: bool,
     e: &Expr<'_>,
+    deeds: &mut Vec<Deed<'t>>,
     first: &mut Option<Breach>,
 ) -> Result<Option<Shown<'t>>, AllocError>
     ensures told { IfOk result (λ r. first.new ≡ least_from first.old (argument_told scopes.now in_task (ExprArgument (expr_view e.now)))) }
     ensures node { IfOk result (λ r. first.new ≡ None → AreKnownScopes scopes.now
         → WhereSimple scopes.now (expr_view e.now) (IsArgumentAs scopes.now (ExprArgument (expr_view e.now)) r)) }
+    ensures deeds { OnOk result (Adds (expr_deeds scopes.now (expr_view e.now)) deeds.old.items deeds.new.items) }
 {
-    let Ok(part) = printed_part(arena, scopes, in_task, e, first) else {
+    let Ok(part) = printed_part(arena, scopes, in_task, e, deeds, first) else {
         return Err(AllocError);
     };
     wanted(printed_want(e), part, first);
@@ -117,23 +125,25 @@ fn value<'t>(
 /// An argument, and what is shown of it; of one that is broken, or doesn't run, nothing is.
 ///
 /// # Errors
-/// Out of memory; of what was told then nothing is said.
+/// Out of memory; of what was told and done then nothing is said.
 pub(crate) fn argument<'t>(
     arena: Arena<'t>,
     scopes: &Scopes<'t>,
     in_task: bool,
     written: &Argument<'_>,
+    deeds: &mut Vec<Deed<'t>>,
     first: &mut Option<Breach>,
 ) -> Result<Option<Shown<'t>>, AllocError>
     ensures told { IfOk result (λ r. first.new ≡ least_from first.old (argument_told scopes.now in_task (argument_view written.now))) }
     ensures node { IfOk result (λ r. first.new ≡ None → AreKnownScopes scopes.now → IsPlainArgument scopes.now (argument_view written.now)
         → IsArgumentAs scopes.now (argument_view written.now) r) }
+    ensures deeds { OnOk result (Adds (argument_deeds scopes.now (argument_view written.now)) deeds.old.items deeds.new.items) }
 {
     match written {
         Argument::Text(_, bytes) => match text(arena, bytes) {
             Ok(meant) => Ok(Some(Shown::Text(meant))),
             Err(_) => Err(AllocError),
         },
-        Argument::Expr(e) => value(arena, scopes, in_task, e, first),
+        Argument::Expr(e) => value(arena, scopes, in_task, e, deeds, first),
     }
 }

@@ -1,14 +1,14 @@
 -- A forall is admitted exactly where its body breaks none of the rules C6 to C9.
 -- Both speak of what the body does, deed by deed.
-use Rattle.std.proofs.Common.{◌≡◌, ◌↔◌, Bool, true, false, not, ◌||◌, List, [], ◌∷◌, ◌++◌, Option, refl}
+use Rattle.std.proofs.Common.{◌≡◌, ◌↔◌, Bool, true, false, not, ◌||◌, List, [], ◌∷◌, ◌++◌, refl}
 use Rattle.dpl_syntax.specs.declared.place.Place.{Place}
 use Rattle.dpl_rules.specs.Types.{Origin, has}
 use Rattle.dpl_syntax.specs.declared.refusal.Code.{Code}
 use Rattle.dpl_syntax.specs.declared.refusal.Code.TheVariants.{WrittenElsewhere, ReadElsewhere, OuterChanged, NotInForall}
 use Rattle.dpl_rules.specs.Verdicts.{owed}
 use Rattle.dpl_rules.specs.Sights.{is_reduced}
-use Rattle.dpl_rules.specs.Deeds.{Holding, APrint, AForall, ACoforall, AReduction, AnInnerReduction, ACellCall, AnOn, AHere, ADeclaration, AReduceIntent, Deed, Reads, ReadsAt, Writes, WritesAt, Holds}
-use Rattle.dpl_rules.specs.Bodies.{ForallScope, is_outer, is_outer_array, is_own, is_in, written_arrays, is_scalar_or_domain, goes_on_in, may_change, forall_holds, write_breaches, read_breaches, change_breaches, holding_breaches, each, deed_breaches, forall_breaches}
+use Rattle.dpl_rules.specs.Deeds.{Holding, APrint, AForall, ACoforall, AReduction, ACellCall, AnOn, AHere, ADeclaration, AReduceIntent, Deed, Reads, ReadsAt, Writes, WritesAt, Holds, each}
+use Rattle.dpl_rules.specs.Bodies.{ForallScope, is_outer, is_outer_array, is_own, is_in, written_arrays, is_scalar_or_domain, goes_on_in, may_change, forall_holds, write_breaches, read_breaches, change_breaches, holding_breaches, deed_breaches, forall_breaches}
 use Rattle.dpl_rules.specs.Foralls.{ForallIn, scope_in, deeds_in}
 use Rattle.dpl_rules.specs.Admitted.{MayHold, MayDo, MayDoAll, IsAdmittedBody, IsAdmitted}
 
@@ -69,7 +69,6 @@ may_hold APrint e = absurd cc
 may_hold AForall e = absurd cc
 may_hold ACoforall e = absurd cc
 may_hold AReduction e = absurd cc
-may_hold AnInnerReduction e = absurd cc
 may_hold ACellCall e = absurd cc
 may_hold AnOn e = absurd cc
 may_hold AHere e = absurd cc
@@ -81,7 +80,6 @@ is_held APrint e = absurd e
 is_held AForall e = absurd e
 is_held ACoforall e = absurd e
 is_held AReduction e = absurd e
-is_held AnInnerReduction e = absurd e
 is_held ACellCall e = absurd e
 is_held AnOn e = absurd e
 is_held AHere e = absurd e

@@ -7,8 +7,8 @@ use Rattle.dpl_syntax.specs.declared.refusal.Breach.{Breach}
 use Rattle.dpl_rules.specs.Sights.{Sight, enter, inside}
 use Rattle.dpl_rules.specs.Assignments.{condition_breaches, on_breaches}
 use Rattle.dpl_rules.specs.Loops.{ForWord, ForallWord, CoforallWord, header_breaches, with_breaches, in_loop, behind}
-use Rattle.dpl_rules.specs.Doings.{with_deeds, body_deeds, stmts_deeds}
-use Rattle.dpl_rules.specs.Bodies.{forall_scope, forall_breaches, task_breaches, inner_reductions}
+use Rattle.dpl_rules.specs.Doings.{with_deeds, body_deeds}
+use Rattle.dpl_rules.specs.Bodies.{forall_scope, forall_breaches, task_breaches}
 use Rattle.dpl_rules.specs.Foralls.{ForallIn, foralls, body_foralls, all_foralls, else_foralls}
 use Rattle.dpl_rules.specs.Admitted.{AreAdmitted}
 use Rattle.dpl_rules.specs.Breaches.{in_forall, in_coforall, stmt_breaches, body_breaches, stmts_breaches, else_breaches, top, top_sight, all_declarations, count_breaches, breaches, before, least_from, first_breach}
@@ -79,10 +79,7 @@ mutual
 -- a sound program's foralls are admitted
 pub sound_admitted : (t : ProgramTree Text) → IsSound t → AreAdmitted (all_foralls top t.stmts)
 sound_admitted t e =
-    let within = stmts_breaches top_sight t.stmts in
-    let reductions = inner_reductions (stmts_deeds top t.stmts) in
-    stmts_admitted top_sight t.stmts
-    (first_empty within reductions (first_empty (within ++ reductions) (count_breaches (all_declarations t.stmts)) e))
+    stmts_admitted top_sight t.stmts (first_empty (stmts_breaches top_sight t.stmts) (count_breaches (all_declarations t.stmts)) e)
 
 -- ---- the first breach
 some_first : (a : Breach) (bs : List Breach) → least_from (Some a) bs ≡ None → ⊥

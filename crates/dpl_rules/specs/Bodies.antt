@@ -1,16 +1,16 @@
--- The rules on what the body of a forall or of a coforall does, C6 to C10, one function a rule; and C7 and C9 elsewhere.
+-- The rules on what the body of a forall or of a coforall does, C6 to C10, one function a rule; and C7 elsewhere.
 -- Outer is what is declared outside the loop, its variables not among it.
 use Rattle.std.specs.Prelude.{ℕ, ◌+◌, ◌==◌, Bool, true, false, not, ◌&&◌, ◌||◌, bytes_eq, if◌then◌else◌, List, [], ◌∷◌, ◌++◌, map, Option}
 use Rattle.dpl_language.specs.Tree.{Placed, VariablesTree, WithTree, Op, Sum, Product, Assign, SetAdd, SetMultiply, SetReduce, ItemTree, TargetTree, Whole, Element}
 use Rattle.dpl_language.specs.Names.{Text}
-use Rattle.dpl_rules.specs.Types.{Origin, same_origin, ValueType, is_any_scalar, is_domain, is_array, is_locale, has}
+use Rattle.dpl_rules.specs.Types.{Origin, same_origin, ValueType, is_any_scalar, is_domain, is_array, is_promoted, is_locale, has}
 use Rattle.dpl_syntax.specs.declared.refusal.Code.TheVariants.{WrittenElsewhere, ReadElsewhere, OuterChanged, NotInForall, NotInCoforall}
 use Rattle.dpl_syntax.specs.declared.refusal.Breach.{Breach}
-use Rattle.dpl_rules.specs.Verdicts.{breach, owed, where_given}
+use Rattle.dpl_rules.specs.Verdicts.{owed, where_given}
 use Rattle.dpl_rules.specs.Sights.{Declared, Scopes, lookup, is_outside, Reducing, is_reduced}
 use Rattle.dpl_rules.specs.Expressions.{item_type}
 use Rattle.dpl_rules.specs.Loops.{variables_of, reducing_in}
-use Rattle.dpl_rules.specs.Deeds.{IndexPart, AtName, Holding, AnInnerReduction, ACellCall, AnOn, AHere, AReduceIntent, Deed, Reads, ReadsAt, Writes, WritesAt, Holds, is_promoted, item_deeds}
+use Rattle.dpl_rules.specs.Deeds.{IndexPart, AtName, Holding, ACellCall, AnOn, AHere, AReduceIntent, Deed, Reads, ReadsAt, Writes, WritesAt, Holds, each, item_deeds}
 
 -- a forall as its body's rules see it: its variables, its reduce variables, and how many scopes are open around it
 pub record ForallScope : Type 0 where
@@ -114,10 +114,6 @@ holding_breaches (Holds at h) = owed (forall_holds h) at NotInForall
 holding_breaches _ = []
 
 -- ---- a forall's body, deed by deed
-abbrev pub each : (Deed → List Breach) → List Deed → List Breach
-each f [] = []
-each f (d ∷ ds) = f d ++ each f ds
-
 abbrev pub deed_breaches : ForallScope → List Origin → Deed → List Breach
 deed_breaches loop written d =
     write_breaches loop d ++ read_breaches loop written d ++ change_breaches loop d ++ holding_breaches d
@@ -142,14 +138,6 @@ task_deed depth _ = []
 abbrev pub task_breaches : ℕ → List Deed → List Breach
 task_breaches depth ds = each (task_deed depth) ds
 
--- ---- C9 everywhere: no reduction stands in a promoted expression or in a map's argument
-abbrev pub inner_reduction : Deed → List Breach
-inner_reduction (Holds at AnInnerReduction) = breach at NotInForall
-inner_reduction _ = []
-
-abbrev pub inner_reductions : List Deed → List Breach
-inner_reductions ds = each inner_reduction ds
-
 -- ---- C7 in a promoted assignment: it doesn't read its target by an index list
 abbrev pub element_read : Origin → Deed → List Breach
 element_read o (ReadsAt at d is) = owed (not (same_origin o d.origin)) at ReadElsewhere
@@ -160,5 +148,5 @@ whole_target d ds = where_given d (λ d. if has is_array d.type then each (eleme
 
 abbrev pub promoted_breaches : Scopes → TargetTree Text → ItemTree Text → List Breach
 promoted_breaches ss (Whole x) item =
-    if has is_promoted (item_type ss item) then whole_target (lookup ss x.name) (item_deeds ss false item) else []
+    if has is_promoted (item_type ss item) then whole_target (lookup ss x.name) (item_deeds ss item) else []
 promoted_breaches ss (Element x shape from es upto) item = []

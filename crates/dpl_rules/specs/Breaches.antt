@@ -14,8 +14,8 @@ use Rattle.dpl_rules.specs.Sights.{Scopes, enter, Sight, inside}
 use Rattle.dpl_rules.specs.Declarations.{declaration_breaches}
 use Rattle.dpl_rules.specs.Assignments.{assignment_breaches, call_breaches, printed_breaches, condition_breaches, on_breaches}
 use Rattle.dpl_rules.specs.Loops.{ForWord, ForallWord, CoforallWord, header_breaches, with_breaches, in_loop, reducing_in, behind}
-use Rattle.dpl_rules.specs.Doings.{with_deeds, body_deeds, stmts_deeds}
-use Rattle.dpl_rules.specs.Bodies.{forall_scope, forall_breaches, task_breaches, inner_reductions, promoted_breaches}
+use Rattle.dpl_rules.specs.Doings.{with_deeds, body_deeds}
+use Rattle.dpl_rules.specs.Bodies.{forall_scope, forall_breaches, task_breaches, promoted_breaches}
 
 -- ---- what a forall's and a coforall's body have in sight
 abbrev pub in_forall : Sight → VariablesTree Text → ItemTree Text → Option (WithTree Text) → Sight
@@ -116,7 +116,7 @@ top_sight = record { scopes = top; forall = None; in_task = false }
 
 abbrev pub breaches : ProgramTree Text → List Breach
 breaches t =
-    stmts_breaches top_sight t.stmts ++ inner_reductions (stmts_deeds top t.stmts) ++ count_breaches (all_declarations t.stmts)
+    stmts_breaches top_sight t.stmts ++ count_breaches (all_declarations t.stmts)
 
 -- ---- the first breach, by place and then by code
 -- the codes in their order

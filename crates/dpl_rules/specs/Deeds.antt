@@ -1,14 +1,15 @@
 -- What expressions do that a loop around them may forbid: the names and elements that they read, and what they hold.
 -- Each name stands with the declaration that it stands for there; one that isn't known does nothing.
-use Rattle.std.specs.Prelude.{ℤ, neg_ℤ, Bool, true, false, ◌||◌, if◌then◌else◌, List, [], ◌∷◌, ◌++◌, unwrap_or, option_map, option_and_then, Option, Some, None}
+use Rattle.std.specs.Prelude.{ℤ, neg_ℤ, Bool, true, false, if◌then◌else◌, List, [], ◌∷◌, ◌++◌, unwrap_or, option_map, option_and_then, Option, Some, None}
 use Rattle.dpl_syntax.specs.declared.place.Place.{Place}
-use Rattle.dpl_language.specs.Tree.{Placed, Infix, Add, Subtract, Assign, ExprTree, Number, TruthWord, Named, LocalesWord, LocaleCount, HereWord, Grouped, DomainLiteral, Prefixed, Reduced, Chain, Postfixed, ItemTree, One, RangeItem, Stride, NoStride, By, Links, NoLinks, Link, Posts, NoPosts, Post, PostTree, Brackets, Rounds, Dotted, MethodTree, Plainly, Dim, Contains, Expand, CellRead, Items, FirstItem, MoreItems, NoItems, NextItem, Exprs, FirstExpr, MoreExprs, NoExprs, NextExpr}
+use Rattle.dpl_language.specs.Tree.{Placed, Infix, Add, Subtract, Assign, ExprTree, Number, TruthWord, Named, LocalesWord, LocaleCount, HereWord, Grouped, DomainLiteral, Prefixed, Reduced, Chain, Postfixed, ItemTree, One, RangeItem, Stride, NoStride, By, Links, NoLinks, Link, Posts, NoPosts, Post, PostTree, Brackets, Rounds, Dotted, MethodTree, Contains, Expand, CellRead, Items, FirstItem, MoreItems, NoItems, NextItem, Exprs, FirstExpr, MoreExprs, NoExprs, NextExpr, StartTree, StartExpr, StartTuple, MapTree, BlockMap, CyclicMap, BlockCyclicMap, MappedTree}
 use Rattle.dpl_language.specs.Names.{Text}
-use Rattle.dpl_language.specs.Phrases.{Base, BaseName, base_of, bare_name}
-use Rattle.dpl_rules.specs.Types.{ValueType, Promoted, is_array, is_cell, has}
-use Rattle.dpl_rules.specs.Verdicts.{where_given}
+use Rattle.dpl_language.specs.Phrases.{Base, BaseName, base_of, bare_name, parts}
+use Rattle.dpl_rules.specs.Types.{is_array, is_cell, has}
+use Rattle.dpl_syntax.specs.declared.refusal.Code.TheVariants.{NotInForall}
+use Rattle.dpl_syntax.specs.declared.refusal.Breach.{Breach}
+use Rattle.dpl_rules.specs.Verdicts.{breach, where_given}
 use Rattle.dpl_rules.specs.Sights.{Declared, Scopes, lookup}
-use Rattle.dpl_rules.specs.Expressions.{type_of, chain_type}
 
 -- An index of an element, as far as the text tells it: a name, a name and what a number adds to it, or anything else.
 pub data IndexPart : Type 0 where
@@ -16,18 +17,12 @@ pub data IndexPart : Type 0 where
   Shifted : Declared → ℤ → IndexPart
   Elsewhere : IndexPart
 
--- an expression that gives a value at each index of whole arrays
-abbrev pub is_promoted : ValueType → Bool
-is_promoted (Promoted k over) = true
-is_promoted _ = false
-
--- what a body may hold that a loop forbids; an inner reduction is one in a promoted expression or in a map's argument
+-- what a body may hold that a loop forbids
 pub data Holding : Type 0 where
   APrint : Holding
   AForall : Holding
   ACoforall : Holding
   AReduction : Holding
-  AnInnerReduction : Holding
   ACellCall : Holding
   AnOn : Holding
   AHere : Holding
@@ -123,69 +118,88 @@ module _ (scopes : Scopes) where
   base_deeds (BaseName x) posts otherwise = declared_deeds x.at posts (lookup scopes x.name)
   base_deeds _ posts otherwise = otherwise
 
-  -- A chain is read in pairs: what stands before the next operand is one operand with it. Behind a refused pair none has a type.
-  abbrev pub pair_type : Option ValueType → Place → Infix → ExprTree Text → Option ValueType
-  pair_type t at op e = chain_type scopes t (Link at op e NoLinks)
-
-  -- whether a pair from here on is promoted, where what stands before has this type
-  abbrev pub has_promoted_pair : Option ValueType → Links Text → Bool
-  has_promoted_pair t NoLinks = false
-  has_promoted_pair t (Link at op e rest) = has is_promoted (pair_type t at op e) || has_promoted_pair (pair_type t at op e) rest
-
-  -- what an expression does; the flag says that it stands in a promoted expression or in a map's argument
+  -- what an expression does
   abbrev mutual
-    pub expr_deeds : Bool → ExprTree Text → List Deed
-    expr_deeds inner (Number at n) = []
-    expr_deeds inner (TruthWord at b) = []
-    expr_deeds inner (Named x) = declared_deeds x.at NoPosts (lookup scopes x.name)
-    expr_deeds inner (LocalesWord at) = []
-    expr_deeds inner (LocaleCount at) = []
-    expr_deeds inner (HereWord at) = held at AHere
-    expr_deeds inner (Grouped from item upto) = item_deeds inner item
-    expr_deeds inner (DomainLiteral from items upto) = items_deeds inner items
-    expr_deeds inner (Prefixed at op e) = expr_deeds inner e
-    expr_deeds inner (Reduced at op word e) = held at AReduction ++ held_if inner at AnInnerReduction ++ expr_deeds inner e
-    expr_deeds inner (Chain e rest) = expr_deeds (inner || has_promoted_pair (type_of scopes e) rest) e ++ links_deeds inner (type_of scopes e) rest
-    expr_deeds inner (Postfixed e posts) = base_deeds (base_of e) posts (expr_deeds inner e) ++ posts_deeds inner posts
+    pub expr_deeds : ExprTree Text → List Deed
+    expr_deeds (Number at n) = []
+    expr_deeds (TruthWord at b) = []
+    expr_deeds (Named x) = declared_deeds x.at NoPosts (lookup scopes x.name)
+    expr_deeds (LocalesWord at) = []
+    expr_deeds (LocaleCount at) = []
+    expr_deeds (HereWord at) = held at AHere
+    expr_deeds (Grouped from item upto) = item_deeds item
+    expr_deeds (DomainLiteral from items upto) = items_deeds items
+    expr_deeds (Prefixed at op e) = expr_deeds e
+    expr_deeds (Reduced at op word e) = held at AReduction ++ expr_deeds e
+    expr_deeds (Chain e rest) = expr_deeds e ++ links_deeds rest
+    expr_deeds (Postfixed e posts) = base_deeds (base_of e) posts (expr_deeds e) ++ posts_deeds posts
 
-    pub item_deeds : Bool → ItemTree Text → List Deed
-    item_deeds inner (One e) = expr_deeds inner e
-    item_deeds inner (RangeItem low at dots high by) = expr_deeds inner low ++ expr_deeds inner high ++ stride_deeds inner by
+    pub item_deeds : ItemTree Text → List Deed
+    item_deeds (One e) = expr_deeds e
+    item_deeds (RangeItem low at dots high by) = expr_deeds low ++ expr_deeds high ++ stride_deeds by
 
-    pub stride_deeds : Bool → Stride Text → List Deed
-    stride_deeds inner NoStride = []
-    stride_deeds inner (By at e) = expr_deeds inner e
+    pub stride_deeds : Stride Text → List Deed
+    stride_deeds NoStride = []
+    stride_deeds (By at e) = expr_deeds e
 
-    -- an operand stands in its own pair and in those behind it; the type is that of what stands before
-    pub links_deeds : Bool → Option ValueType → Links Text → List Deed
-    links_deeds inner t NoLinks = []
-    links_deeds inner t (Link at op e rest) =
-        expr_deeds (inner || has_promoted_pair t (Link at op e rest)) e ++ links_deeds inner (pair_type t at op e) rest
+    pub links_deeds : Links Text → List Deed
+    links_deeds NoLinks = []
+    links_deeds (Link at op e rest) = expr_deeds e ++ links_deeds rest
 
-    pub posts_deeds : Bool → Posts Text → List Deed
-    posts_deeds inner NoPosts = []
-    posts_deeds inner (Post p rest) = post_deeds inner p ++ posts_deeds inner rest
+    pub posts_deeds : Posts Text → List Deed
+    posts_deeds NoPosts = []
+    posts_deeds (Post p rest) = post_deeds p ++ posts_deeds rest
 
-    pub post_deeds : Bool → PostTree Text → List Deed
-    post_deeds inner (Brackets from items upto) = items_deeds inner items
-    post_deeds inner (Rounds from es upto) = exprs_deeds inner es
-    post_deeds inner (Dotted dot m) = method_deeds inner m
+    pub post_deeds : PostTree Text → List Deed
+    post_deeds (Brackets from items upto) = items_deeds items
+    post_deeds (Rounds from es upto) = exprs_deeds es
+    post_deeds (Dotted dot m) = method_deeds m
 
-    pub method_deeds : Bool → MethodTree Text → List Deed
-    method_deeds inner (Contains at from es upto) = exprs_deeds inner es
-    method_deeds inner (Expand at from e upto) = expr_deeds inner e
-    method_deeds inner _ = []
+    pub method_deeds : MethodTree Text → List Deed
+    method_deeds (Contains at from es upto) = exprs_deeds es
+    method_deeds (Expand at from e upto) = expr_deeds e
+    method_deeds _ = []
 
-    pub items_deeds : Bool → Items Text → List Deed
-    items_deeds inner (FirstItem i more) = item_deeds inner i ++ more_items_deeds inner more
+    pub items_deeds : Items Text → List Deed
+    items_deeds (FirstItem i more) = item_deeds i ++ more_items_deeds more
 
-    pub more_items_deeds : Bool → MoreItems Text → List Deed
-    more_items_deeds inner NoItems = []
-    more_items_deeds inner (NextItem comma i more) = item_deeds inner i ++ more_items_deeds inner more
+    pub more_items_deeds : MoreItems Text → List Deed
+    more_items_deeds NoItems = []
+    more_items_deeds (NextItem comma i more) = item_deeds i ++ more_items_deeds more
 
-    pub exprs_deeds : Bool → Exprs Text → List Deed
-    exprs_deeds inner (FirstExpr e more) = expr_deeds inner e ++ more_exprs_deeds inner more
+    pub exprs_deeds : Exprs Text → List Deed
+    exprs_deeds (FirstExpr e more) = expr_deeds e ++ more_exprs_deeds more
 
-    pub more_exprs_deeds : Bool → MoreExprs Text → List Deed
-    more_exprs_deeds inner NoExprs = []
-    more_exprs_deeds inner (NextExpr comma e more) = expr_deeds inner e ++ more_exprs_deeds inner more
+    pub more_exprs_deeds : MoreExprs Text → List Deed
+    more_exprs_deeds NoExprs = []
+    more_exprs_deeds (NextExpr comma e more) = expr_deeds e ++ more_exprs_deeds more
+
+  -- ---- maps: what their arguments do
+  abbrev pub all_deeds : List (ExprTree Text) → List Deed
+  all_deeds [] = []
+  all_deeds (e ∷ es) = expr_deeds e ++ all_deeds es
+
+  abbrev pub start_deeds : StartTree Text → List Deed
+  start_deeds (StartExpr e) = expr_deeds e
+  start_deeds (StartTuple from es upto) = all_deeds (parts es)
+
+  abbrev pub map_deeds : MapTree Text → List Deed
+  map_deeds (BlockMap m) = item_deeds m.box
+  map_deeds (CyclicMap m) = start_deeds m.start
+  map_deeds (BlockCyclicMap m) = start_deeds m.start ++ start_deeds m.size
+
+  abbrev pub mapped_deeds : Option (MappedTree Text) → List Deed
+  mapped_deeds mapped = where_given mapped (λ m. map_deeds m.map)
+
+-- ---- what deeds break, one by one
+abbrev pub each : (Deed → List Breach) → List Deed → List Breach
+each f [] = []
+each f (d ∷ ds) = f d ++ each f ds
+
+-- C9: a reduction where none may stand, in a promoted expression or in a map's argument
+abbrev pub inner_reduction : Deed → List Breach
+inner_reduction (Holds at AReduction) = breach at NotInForall
+inner_reduction _ = []
+
+abbrev pub inner_reductions : List Deed → List Breach
+inner_reductions ds = each inner_reduction ds

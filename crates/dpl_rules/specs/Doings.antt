@@ -2,7 +2,7 @@
 -- Writes in an inner loop are writes of every loop around it.
 use Rattle.std.specs.Prelude.{Bool, true, false, List, [], ◌∷◌, ◌++◌, Option, Some, None}
 use Rattle.dpl_syntax.specs.declared.place.Place.{Place}
-use Rattle.dpl_language.specs.Tree.{Placed, Assign, ExprTree, Exprs, StartTree, StartExpr, StartTuple, MapTree, BlockMap, CyclicMap, BlockCyclicMap, MappedTree, TypeTree, ScalarType, SyncType, DomainType, ArrayType, InitTree, ItemInit, CreateInit, InitialTree, DeclareTree, TargetTree, Whole, Element, CallTree, WriteCall, ArgumentTree, TextArgument, ExprArgument, IntentTree, ReduceIntent, RefIntent, WithTree}
+use Rattle.dpl_language.specs.Tree.{Placed, Assign, Exprs, TypeTree, ScalarType, DomainType, ArrayType, InitTree, ItemInit, CreateInit, InitialTree, DeclareTree, TargetTree, Whole, Element, CallTree, WriteCall, ArgumentTree, TextArgument, ExprArgument, IntentTree, ReduceIntent, RefIntent, WithTree}
 use Rattle.dpl_language.specs.Tree.{StmtTree, Nothing, Declare, Assigned, Call, Write, Block, If, While, For, Forall, Coforall, On, Body, WordBody, BlockBody, Stmts, NoStmts, Then, Else, NoElse, ElseDo}
 use Rattle.dpl_language.specs.Names.{Text}
 use Rattle.dpl_language.specs.Phrases.{parts}
@@ -14,7 +14,7 @@ use Rattle.dpl_rules.specs.Places.{first_of_declaration}
 use Rattle.dpl_rules.specs.Sights.{Declared, Scopes, lookup, type_declared, enter}
 use Rattle.dpl_rules.specs.Expressions.{item_type}
 use Rattle.dpl_rules.specs.Loops.{ForWord, ForallWord, CoforallWord, in_loop, behind}
-use Rattle.dpl_rules.specs.Deeds.{APrint, AForall, ACoforall, ACellCall, AnOn, ADeclaration, AReduceIntent, Deed, Writes, WritesAt, held, held_if, exprs_index, expr_deeds, item_deeds, items_deeds, exprs_deeds}
+use Rattle.dpl_rules.specs.Deeds.{APrint, AForall, ACoforall, ACellCall, AnOn, ADeclaration, AReduceIntent, Deed, Writes, WritesAt, held, held_if, exprs_index, expr_deeds, item_deeds, items_deeds, exprs_deeds, mapped_deeds}
 
 -- ---- declarations of arrays, domains and cells. A written type says it by itself; where none is written, `dmapped` and
 -- `createDomain` do, and else the initial value's type, if it has one.
@@ -42,51 +42,38 @@ module _ (scopes : Scopes) where
   is_apart (Some t) initial = is_apart_type t
   is_apart None initial = has {A = InitialTree Text} (λ i. is_apart_init i.init) initial
 
-  -- a map's arguments hold no reduction
-  abbrev pub all_deeds : Bool → List (ExprTree Text) → List Deed
-  all_deeds inner [] = []
-  all_deeds inner (e ∷ es) = expr_deeds scopes inner e ++ all_deeds inner es
-
-  abbrev pub start_deeds : StartTree Text → List Deed
-  start_deeds (StartExpr e) = expr_deeds scopes true e
-  start_deeds (StartTuple from es upto) = all_deeds true (parts es)
-
-  abbrev pub map_deeds : MapTree Text → List Deed
-  map_deeds (BlockMap m) = item_deeds scopes true m.box
-  map_deeds (CyclicMap m) = start_deeds m.start
-  map_deeds (BlockCyclicMap m) = start_deeds m.start ++ start_deeds m.size
-
-  abbrev pub mapped_deeds : Option (MappedTree Text) → List Deed
-  mapped_deeds mapped = where_given mapped (λ m. map_deeds m.map)
-
   abbrev pub type_deeds : Option (TypeTree Text) → List Deed
-  type_deeds (Some (DomainType d)) = mapped_deeds d.mapped
-  type_deeds (Some (ArrayType a)) = items_deeds scopes false a.over
+  type_deeds (Some (DomainType d)) = mapped_deeds scopes d.mapped
+  type_deeds (Some (ArrayType a)) = items_deeds scopes a.over
   type_deeds _ = []
 
   abbrev pub init_deeds : InitTree Text → List Deed
-  init_deeds (ItemInit item mapped) = item_deeds scopes false item ++ mapped_deeds mapped
-  init_deeds (CreateInit c) = items_deeds scopes false c.items
+  init_deeds (ItemInit item mapped) = item_deeds scopes item ++ mapped_deeds scopes mapped
+  init_deeds (CreateInit c) = items_deeds scopes c.items
 
   abbrev pub initial_deeds : Option (InitialTree Text) → List Deed
   initial_deeds initial = where_given initial (λ i. init_deeds i.init)
 
   abbrev pub declaration_deeds : DeclareTree Text → List Deed
   declaration_deeds d =
-      held_if (is_apart (written_type d.typed) d.initial) (first_of_declaration d) ADeclaration
-      ++ type_deeds (written_type d.typed) ++ initial_deeds d.initial
+      type_deeds (written_type d.typed) ++ initial_deeds d.initial
+      ++ held_if (is_apart (written_type d.typed) d.initial) (first_of_declaration d) ADeclaration
 
   -- ---- writes, calls and prints
   abbrev pub element_written : Place → Option Declared → Exprs Text → Assign → List Deed
   element_written at d es op = where_given d (λ d. WritesAt at d (exprs_index scopes es) op ∷ [])
 
-  abbrev pub target_deeds : TargetTree Text → Assign → List Deed
-  target_deeds (Whole x) op = written x.at (lookup scopes x.name) op
-  target_deeds (Element x shape from es upto) op =
-      exprs_deeds scopes false es ++ element_written x.at (lookup scopes x.name) es op
+  -- what a target's indices do, and that it is written
+  abbrev pub target_deeds : TargetTree Text → List Deed
+  target_deeds (Whole x) = []
+  target_deeds (Element x shape from es upto) = exprs_deeds scopes es
+
+  abbrev pub target_written : TargetTree Text → Assign → List Deed
+  target_written (Whole x) op = written x.at (lookup scopes x.name) op
+  target_written (Element x shape from es upto) op = element_written x.at (lookup scopes x.name) es op
 
   abbrev pub call_argument_deeds : CallTree Text → List Deed
-  call_argument_deeds (WriteCall at w from e upto) = expr_deeds scopes false e
+  call_argument_deeds (WriteCall at w from e upto) = expr_deeds scopes e
   call_argument_deeds _ = []
 
   abbrev pub call_deeds : Placed Text → CallTree Text → List Deed
@@ -96,25 +83,25 @@ module _ (scopes : Scopes) where
   abbrev pub arguments_deeds : List (ArgumentTree Text) → List Deed
   arguments_deeds [] = []
   arguments_deeds (TextArgument at cs ∷ rest) = arguments_deeds rest
-  arguments_deeds (ExprArgument e ∷ rest) = expr_deeds scopes false e ++ arguments_deeds rest
+  arguments_deeds (ExprArgument e ∷ rest) = expr_deeds scopes e ++ arguments_deeds rest
 
 -- ---- statements
 abbrev mutual
   pub stmt_deeds : Scopes → StmtTree Text → List Deed
   stmt_deeds ss (Nothing at) = []
   stmt_deeds ss (Declare d) = declaration_deeds ss d
-  stmt_deeds ss (Assigned target sign item semicolon) = item_deeds ss false item ++ target_deeds ss target sign.op
+  stmt_deeds ss (Assigned target sign item semicolon) = target_deeds ss target ++ item_deeds ss item ++ target_written ss target sign.op
   stmt_deeds ss (Call x dot call semicolon) = call_deeds ss x call
   stmt_deeds ss (Write w) = held w.at APrint ++ arguments_deeds ss (arguments_of w.arguments)
   stmt_deeds ss (Block from ts upto) = stmts_deeds (enter ss) ts
-  stmt_deeds ss (If at e first second) = expr_deeds ss false e ++ body_deeds (enter ss) first ++ else_deeds (enter ss) second
-  stmt_deeds ss (While at e body) = expr_deeds ss false e ++ body_deeds (enter ss) body
-  stmt_deeds ss (For at xs word item body) = item_deeds ss false item ++ body_deeds (in_loop ss ForWord xs item) body
+  stmt_deeds ss (If at e first second) = expr_deeds ss e ++ body_deeds (enter ss) first ++ else_deeds (enter ss) second
+  stmt_deeds ss (While at e body) = expr_deeds ss e ++ body_deeds (enter ss) body
+  stmt_deeds ss (For at xs word item body) = item_deeds ss item ++ body_deeds (in_loop ss ForWord xs item) body
   stmt_deeds ss (Forall at xs word item intents body) =
-      held at AForall ++ item_deeds ss false item ++ with_deeds intents ++ body_deeds (in_loop ss ForallWord xs item) body
+      held at AForall ++ item_deeds ss item ++ with_deeds intents ++ body_deeds (in_loop ss ForallWord xs item) body
   stmt_deeds ss (Coforall at xs word item intents body) =
-      held at ACoforall ++ item_deeds ss false item ++ with_deeds intents ++ body_deeds (in_loop ss CoforallWord xs item) body
-  stmt_deeds ss (On at e body) = held at AnOn ++ expr_deeds ss false e ++ body_deeds (enter ss) body
+      held at ACoforall ++ item_deeds ss item ++ with_deeds intents ++ body_deeds (in_loop ss CoforallWord xs item) body
+  stmt_deeds ss (On at e body) = held at AnOn ++ expr_deeds ss e ++ body_deeds (enter ss) body
 
   pub body_deeds : Scopes → Body Text → List Deed
   body_deeds ss (WordBody at t) = stmt_deeds ss t

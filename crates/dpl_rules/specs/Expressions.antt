@@ -1,17 +1,18 @@
 -- The types of expressions, and where they break the rules on names, types and ranks.
--- A part's breaches are its own and those of its parts; each form's own come from the one verdict of its rule.
-use Rattle.std.specs.Prelude.{true, false, if◌then◌else◌, List, [], ◌∷◌, ◌++◌, is_some, option_map, option_and_then, Option, Some, None}
+-- A part's breaches are its own and those of its parts; each form's own come from the one verdict of its rule, and a chain's from C9 as well.
+use Rattle.std.specs.Prelude.{Bool, true, false, ◌||◌, if◌then◌else◌, List, [], ◌∷◌, ◌++◌, is_some, option_map, option_and_then, Option, Some, None}
 use Rattle.std.specs.Option.{option_or}
 use Rattle.dpl_syntax.specs.declared.place.Place.{Place}
-use Rattle.dpl_language.specs.Tree.{Kind, ExprTree, Number, TruthWord, Named, LocalesWord, LocaleCount, HereWord, Grouped, DomainLiteral, Prefixed, Reduced, Chain, Postfixed, ItemTree, One, RangeItem, Stride, NoStride, By, Links, NoLinks, Link, Posts, NoPosts, Post, PostTree, Brackets, Rounds, Dotted, MethodTree, Plainly, Dim, Contains, Expand, CellRead, Items, FirstItem, MoreItems, NoItems, NextItem, Exprs, FirstExpr, MoreExprs, NoExprs, NextExpr}
+use Rattle.dpl_language.specs.Tree.{Kind, Infix, ExprTree, Number, TruthWord, Named, LocalesWord, LocaleCount, HereWord, Grouped, DomainLiteral, Prefixed, Reduced, Chain, Postfixed, ItemTree, One, RangeItem, Stride, NoStride, By, Links, NoLinks, Link, Posts, NoPosts, Post, PostTree, Brackets, Rounds, Dotted, MethodTree, Plainly, Dim, Contains, Expand, CellRead, Items, FirstItem, MoreItems, NoItems, NextItem, Exprs, FirstExpr, MoreExprs, NoExprs, NextExpr}
 use Rattle.dpl_language.specs.Names.{Text}
 use Rattle.dpl_language.specs.Phrases.{ReadTree, item_read}
-use Rattle.dpl_rules.specs.Types.{ValueType, Scalar, Locale, AllLocales, an_int, a_bool, domain_of, cell_of, is_cell}
+use Rattle.dpl_rules.specs.Types.{ValueType, Scalar, Locale, AllLocales, an_int, a_bool, domain_of, cell_of, is_cell, is_promoted, has}
 use Rattle.dpl_syntax.specs.declared.refusal.Code.TheVariants.{UnknownName, WrongType, CellMisused}
 use Rattle.dpl_syntax.specs.declared.refusal.Breach.{Breach}
 use Rattle.dpl_rules.specs.Verdicts.{Part, part, Verdict, Has, Breaks, type_by, broken_by, breach, mistyped, with_type}
 use Rattle.dpl_rules.specs.Places.{first_of, first_of_item, last_of, last_of_post}
 use Rattle.dpl_rules.specs.Sights.{Declared, Scopes, lookup, type_declared}
+use Rattle.dpl_rules.specs.Deeds.{Deed, expr_deeds, inner_reductions}
 use Rattle.dpl_rules.specs.Operators.{prefix_verdict, reduction_verdict, infix_verdict, range_verdict, ranges_verdict, square_verdict, round_verdict, index_rank, word_verdict, dim_verdict, contains_verdict, expand_verdict}
 
 -- ---- names: known ones alone (C1), and no cell as a plain variable (C12)
@@ -103,6 +104,27 @@ module _ (scopes : Scopes) where
     more_expr_parts NoExprs = []
     more_expr_parts (NextExpr comma e more) = part (first_of e) (type_of e) ∷ more_expr_parts more
 
+  -- ---- promoted expressions. A chain is read in pairs: what stands before the next operand is one operand with it, and behind a refused
+  -- pair none has a type. An operand stands in its own pair and in those behind it.
+  abbrev pub pair_type : Option ValueType → Place → Infix → ExprTree Text → Option ValueType
+  pair_type t at op e = chain_type t (Link at op e NoLinks)
+
+  -- whether a pair from here on is promoted, where what stands before has this type
+  abbrev pub has_promoted_pair : Option ValueType → Links Text → Bool
+  has_promoted_pair t NoLinks = false
+  has_promoted_pair t (Link at op e rest) = has is_promoted (pair_type t at op e) || has_promoted_pair (pair_type t at op e) rest
+
+  -- what an operand does, if it stands in a promoted pair; the further operands that do; and all of a chain
+  abbrev pub inner_deeds : Bool → ExprTree Text → List Deed
+  inner_deeds inner e = if inner then expr_deeds scopes e else []
+
+  abbrev pub inner_links : Option ValueType → Links Text → List Deed
+  inner_links t NoLinks = []
+  inner_links t (Link at op e rest) = inner_deeds (has_promoted_pair t (Link at op e rest)) e ++ inner_links (pair_type t at op e) rest
+
+  abbrev pub inner_chain : ExprTree Text → Links Text → List Deed
+  inner_chain e rest = inner_deeds (has_promoted_pair (type_of e) rest) e ++ inner_links (type_of e) rest
+
   -- ---- breaches
   abbrev mutual
     pub expr_breaches : ExprTree Text → List Breach
@@ -116,7 +138,7 @@ module _ (scopes : Scopes) where
     expr_breaches (DomainLiteral from items upto) = items_breaches items ++ broken_by (ranges_verdict from (item_parts items))
     expr_breaches (Prefixed at op e) = expr_breaches e ++ broken_by (prefix_verdict at op (type_of e))
     expr_breaches (Reduced at op word e) = expr_breaches e ++ broken_by (reduction_verdict at op (type_of e))
-    expr_breaches (Chain e rest) = expr_breaches e ++ chain_breaches (type_of e) rest
+    expr_breaches (Chain e rest) = expr_breaches e ++ chain_breaches (type_of e) rest ++ inner_reductions (inner_chain e rest)
     expr_breaches (Postfixed e posts) =
         none_where (bare_locales e) (expr_breaches e) ++ posts_breaches (last_of e) (locales_or (bare_locales e) (type_of e)) posts
 

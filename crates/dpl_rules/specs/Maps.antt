@@ -11,6 +11,7 @@ use Rattle.dpl_syntax.specs.declared.refusal.Breach.{Breach}
 use Rattle.dpl_rules.specs.Verdicts.{breach, owed, owed_type, where_given}
 use Rattle.dpl_rules.specs.Places.{first_of, first_of_item}
 use Rattle.dpl_rules.specs.Sights.{Scopes}
+use Rattle.dpl_rules.specs.Deeds.{map_deeds, inner_reductions}
 use Rattle.dpl_rules.specs.Expressions.{type_of, item_type, expr_breaches, item_breaches}
 
 -- ---- `X.low` and `X.lowBound`, as the last that stands behind a base
@@ -87,5 +88,6 @@ module _ (scopes : Scopes) where
   map_breaches rank (CyclicMap m) = start_breaches rank m.word m.start
   map_breaches rank (BlockCyclicMap m) = start_breaches rank m.word m.start ++ start_breaches rank m.word m.size
 
+  -- its arguments hold no reduction (C9)
   abbrev pub mapped_breaches : Option ℕ → Option (MappedTree Text) → List Breach
-  mapped_breaches rank mapped = where_given mapped (λ m. map_breaches rank m.map)
+  mapped_breaches rank mapped = where_given mapped (λ m. map_breaches rank m.map ++ inner_reductions (map_deeds scopes m.map))

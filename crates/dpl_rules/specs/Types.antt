@@ -98,6 +98,11 @@ is_array t = is_some (array_of t)
 abbrev pub is_cell : ValueType → Bool
 is_cell t = is_some (cell_of t)
 
+-- an expression that gives a value at each index of whole arrays
+abbrev pub is_promoted : ValueType → Bool
+is_promoted (Promoted k over) = true
+is_promoted _ = false
+
 -- a test holds of what there is; of what a name's type is, where it has one
 abbrev pub has : {A : Type 0} → (A → Bool) → Option A → Bool
 has test None = false

@@ -24,15 +24,15 @@ use Rattle.dpl_rules.specs.Maps.{mapped_breaches}
 use Rattle.dpl_rules.specs.Declarations.{type_rank, is_kept, is_untyped, unless_refused, init_part, untyped_breaches, written_breaches, type_given, config_breaches, declaration_breaches, declared_by}
 use Rattle.dpl_rules.specs.Assignments.{assignment_breaches, condition_breaches}
 use Rattle.dpl_rules.specs.Loops.{LoopWord, ForWord, ForallWord, turn_rank, one_type, variable_type, typed_variable, runs_over, over_type, variables_of, add_variables, header_breaches, with_breaches, in_loop, behind}
-use Rattle.dpl_rules.specs.Deeds.{Deed, Holds, ADeclaration, held_if, expr_deeds, item_deeds, exprs_deeds}
+use Rattle.dpl_rules.specs.Deeds.{Deed, Holds, ADeclaration, held_if, expr_deeds, item_deeds, exprs_deeds, each}
 use Rattle.dpl_rules.specs.Doings.{is_apart_init, is_apart, type_deeds, initial_deeds, declaration_deeds, written, element_written, with_deeds, stmt_deeds, body_deeds, stmts_deeds, else_deeds}
-use Rattle.dpl_rules.specs.Bodies.{ForallScope, forall_scope, is_outer_array, written_arrays, deed_breaches, forall_breaches, promoted_breaches, each}
+use Rattle.dpl_rules.specs.Bodies.{ForallScope, forall_scope, is_outer_array, written_arrays, deed_breaches, forall_breaches, promoted_breaches}
 use Rattle.dpl_rules.specs.Breaches.{top, top_sight, in_forall, stmt_breaches, body_breaches, stmts_breaches, else_breaches}
 use Rattle.dpl_rules.specs.Foralls.{ForallIn, scope_in, deeds_in, foralls, body_foralls, all_foralls, else_foralls}
 use Rattle.dpl_rules.proofs.Admission.{first_empty, second_empty}
 use Rattle.dpl_standing.specs.Written.{first_written, first_in_body, first_among, first_in_else}
 use Rattle.dpl_standing.proofs.FirstWritten.{body-renamed, body-lowered, body-told}
-use Rattle.dpl_standing.proofs.Reading.{first_name, first-both, behind-reads, ReadsAlone, expr-reads, item-reads, exprs-read, declaration-reads, call-reads}
+use Rattle.dpl_standing.proofs.Reading.{first_name, first-both, behind-reads, both-read, ReadsAlone, expr-reads, item-reads, exprs-read, declaration-reads, call-reads}
 use Rattle.dpl_nodes.specs.Spots.{IsNear}
 use Rattle.dpl_lowered.specs.Known.{Known}
 use Rattle.dpl_lowered.specs.LoweredStatements.{lowered_body}
@@ -213,7 +213,7 @@ module _ (f : Turning) where
   turn-declared ss d h m =
       let type = written_type d.typed in
       let held = held_if (is_apart ss type d.initial) (first_of_declaration d) ADeclaration in
-      let own = first-done (Some f) held (type_deeds ss type) (first-done (Some f) (held ++ type_deeds ss type) (initial_deeds ss d.initial) m) in
+      let own = second-done (Some f) (type_deeds ss type ++ initial_deeds ss d.initial) held m in
       declared-plain ss d (apart-held (deed_breaches loop_of f.written) (is_apart ss type d.initial) (first_of_declaration d) (λ e. absurd cc) own) h
 
   pub within-behind : (ss : Scopes) (t : StmtTree Text) → AreWithin depth_of ss → stmt_breaches (sight_by (Some f) ss) t ≡ [] → MayDoIn (Some f) (stmt_deeds ss t) → AreWithin depth_of (behind ss t)
@@ -268,18 +268,17 @@ module _ (f : Turning) where
     turn-first (Nothing at) ss stands within s c h m = refl
     turn-first (Declare d) ss stands within s c h m = ap first_name (declaration-reads loop_of ss d)
     turn-first (Assigned (Whole x) sign item semicolon) ss stands within s c h m =
-        let read = item_deeds ss false item in
-        behind-first read (written x.at (lookup ss x.name) sign.op) None (item-reads loop_of ss false item)
+        let read = item_deeds ss item in
+        behind-first read (written x.at (lookup ss x.name) sign.op) None (item-reads loop_of ss item)
         (whole-first x.at (lookup ss x.name) sign.op (second-done (Some f) read (written x.at (lookup ss x.name) sign.op) m))
     turn-first (Assigned (Element x shape from es upto) sign item semicolon) ss stands within s c h m =
-        let read = item_deeds ss false item in
-        let index = exprs_deeds ss false es in
+        let read = item_deeds ss item in
+        let index = exprs_deeds ss es in
         let own = element_written ss x.at (lookup ss x.name) es sign.op in
         let element = runnable_element ss stands.names (forall_by (Some f)) x shape from es upto sign item s.0.2 s.2 c.0 c.1
         (first_empty (assignment_breaches (sight_by (Some f) ss) (Element x shape from es upto) sign item) (promoted_breaches ss (Element x shape from es upto) item) h) in
-        behind-first read (index ++ own) (Some x.name) (item-reads loop_of ss false item)
-        (behind-first index own (Some x.name) (exprs-read loop_of ss false es)
-        (element-first x.at x.name ss es sign.op element.kind stands.names within element.target))
+        behind-first (index ++ read) own (Some x.name) (both-read loop_of index read (exprs-read loop_of ss es) (item-reads loop_of ss item))
+        (element-first x.at x.name ss es sign.op element.kind stands.names within element.target)
     turn-first (Call x dot call semicolon) ss stands within s c h m = ap first_name (call-reads loop_of ss x call)
     turn-first (Write t) ss stands within s c h m = absurd cc
     turn-first (Block from ts upto) ss stands within s c h m = turn_stmts-first ts (enter ss) (enter-stands (Some f) ss stands) within s.1 c h m
@@ -288,18 +287,18 @@ module _ (f : Turning) where
         let test = condition_breaches (sight_by (Some f) ss) e in
         let one = body_breaches (sight_by (Some f) inner) first in
         let other = else_breaches (sight_by (Some f) inner) second in
-        let tested = expr_deeds ss false e in
+        let tested = expr_deeds ss e in
         let first_deeds = body_deeds inner first in
         let second_deeds = else_deeds inner second in
         two-first (tested ++ first_deeds) second_deeds (first_in_body itself first) (first_in_else itself second)
-        (behind-first tested first_deeds (first_in_body itself first) (expr-reads loop_of ss false e)
+        (behind-first tested first_deeds (first_in_body itself first) (expr-reads loop_of ss e)
         (turn_body-first first inner (enter-stands (Some f) ss stands) within s.2 c.1 (second_empty test one (first_empty (test ++ one) other h))
         (second-done (Some f) tested first_deeds (first-done (Some f) (tested ++ first_deeds) second_deeds m))))
         (turn_else-first second ss stands within s.3 c.2 (second_empty (test ++ one) other h) (second-done (Some f) (tested ++ first_deeds) second_deeds m))
     turn-first (While at e body) ss stands within s c h m =
         let inner = enter ss in
-        let tested = expr_deeds ss false e in
-        behind-first tested (body_deeds inner body) (first_in_body itself body) (expr-reads loop_of ss false e)
+        let tested = expr_deeds ss e in
+        behind-first tested (body_deeds inner body) (first_in_body itself body) (expr-reads loop_of ss e)
         (turn_body-first body inner (enter-stands (Some f) ss stands) within s.2 c.1
         (second_empty (condition_breaches (sight_by (Some f) ss) e) (body_breaches (sight_by (Some f) inner) body) h)
         (second-done (Some f) tested (body_deeds inner body) m))
@@ -307,11 +306,11 @@ module _ (f : Turning) where
         let inner = in_loop ss ForWord xs item in
         let head = header_breaches ss ForWord xs item in
         let others = body_breaches (sight_by (Some f) inner) body in
-        let read = item_deeds ss false item in
-        behind-first read (body_deeds inner body) (first_in_body itself body) (item-reads loop_of ss false item)
+        let read = item_deeds ss item in
+        behind-first read (body_deeds inner body) (first_in_body itself body) (item-reads loop_of ss item)
         (turn_body-first body inner (loop-stands IsNear ss (Some f) ForWord xs item stands s.3 c.0 (first_empty head others h)) (within-loop depth_of ForWord xs item ss within)
         s.4 c.1 (second_empty head others h) (second-done (Some f) read (body_deeds inner body) m))
-    turn-first (Forall at xs word item intents body) ss stands within s c h m = absurd (forall-refuted f at (item_deeds ss false item ++ with_deeds intents ++ body_deeds (in_loop ss ForallWord xs item) body) m)
+    turn-first (Forall at xs word item intents body) ss stands within s c h m = absurd (forall-refuted f at (item_deeds ss item ++ with_deeds intents ++ body_deeds (in_loop ss ForallWord xs item) body) m)
     turn-first (Coforall at xs word item intents body) ss stands within s c h m = absurd c
     turn-first (On at e body) ss stands within s c h m = absurd c
 
@@ -378,18 +377,18 @@ module _ (f : Turning) where
     turn-none (Write t) ss m = refl
     turn-none (Block from ts upto) ss m = turn_stmts-none ts (enter ss) m
     turn-none (If at e first second) ss m =
-        let tested = expr_deeds ss false e in
+        let tested = expr_deeds ss e in
         let one = body_deeds (enter ss) first in
         let other = else_deeds (enter ss) second in
         none-both (body_foralls (enter ss) first) (else_foralls (enter ss) second)
         (turn_body-none first (enter ss) (second-done (Some f) tested one (first-done (Some f) (tested ++ one) other m)))
         (turn_else-none second (enter ss) (second-done (Some f) (tested ++ one) other m))
-    turn-none (While at e body) ss m = turn_body-none body (enter ss) (second-done (Some f) (expr_deeds ss false e) (body_deeds (enter ss) body) m)
+    turn-none (While at e body) ss m = turn_body-none body (enter ss) (second-done (Some f) (expr_deeds ss e) (body_deeds (enter ss) body) m)
     turn-none (For at xs word item body) ss m =
         let inner = in_loop ss ForWord xs item in
-        turn_body-none body inner (second-done (Some f) (item_deeds ss false item) (body_deeds inner body) m)
+        turn_body-none body inner (second-done (Some f) (item_deeds ss item) (body_deeds inner body) m)
     turn-none (Forall at xs word item intents body) ss m =
-        absurd (forall-refuted f at (item_deeds ss false item ++ with_deeds intents ++ body_deeds (in_loop ss ForallWord xs item) body) m)
+        absurd (forall-refuted f at (item_deeds ss item ++ with_deeds intents ++ body_deeds (in_loop ss ForallWord xs item) body) m)
     turn-none (Coforall at xs word item intents body) ss m = absurd cc
     turn-none (On at e body) ss m = absurd cc
 

@@ -1,6 +1,6 @@
 -- The array that a forall's body writes first is, in the resolved tree, the one of that name in sight outside of the forall: the slot is that
 -- of the name's declaration there. By the walk that keeps arrays in sight outer ones, since a body declares none.
-use Rattle.std.proofs.Common.{◌≡◌, ℕ, true, false, [], length, Option, Some, None, is_some, refl, sym, ap, ◌∙◌, subst}
+use Rattle.std.proofs.Common.{◌≡◌, ℕ, true, [], length, Option, Some, None, is_some, refl, sym, ap, ◌∙◌, subst}
 use Rattle.std.specs.Prelude.{option_map, ◌++◌}
 use Rattle.std.specs.Option.{option_or}
 use Rattle.std.proofs.lemmas.Option.{none-some, same_Some}
@@ -124,7 +124,7 @@ module _ (f : Turning) where
         let test = condition_breaches (sight_by (Some f) ss) e in
         let one = body_breaches (sight_by (Some f) inner) first in
         let other = else_breaches (sight_by (Some f) inner) second in
-        let tested = expr_deeds ss false e in
+        let tested = expr_deeds ss e in
         let first_deeds = body_deeds inner first in
         let second_deeds = else_deeds inner second in
         either-outer f.outer (first_in_body bound_itself (bound_body inner first)) (first_in_else bound_itself (bound_else ss second))
@@ -135,15 +135,15 @@ module _ (f : Turning) where
         let inner = enter ss in
         turn_body-outer body inner (enter-stands (Some f) ss stands) within s.2 c.1
         (second_empty (condition_breaches (sight_by (Some f) ss) e) (body_breaches (sight_by (Some f) inner) body) h)
-        (second-done (Some f) (expr_deeds ss false e) (body_deeds inner body) m)
+        (second-done (Some f) (expr_deeds ss e) (body_deeds inner body) m)
     turn-outer (For at xs word item body) ss stands within s c h m =
         let inner = in_loop ss ForWord xs item in
         let head = header_breaches ss ForWord xs item in
         let others = body_breaches (sight_by (Some f) inner) body in
         turn_body-outer body inner (loop-stands IsNear ss (Some f) ForWord xs item stands s.3 c.0 (first_empty head others h)) (within-loop (length f.outer) ForWord xs item ss within)
-        s.4 c.1 (second_empty head others h) (second-done (Some f) (item_deeds ss false item) (body_deeds inner body) m)
+        s.4 c.1 (second_empty head others h) (second-done (Some f) (item_deeds ss item) (body_deeds inner body) m)
     turn-outer (Forall at xs word item intents body) ss stands within s c h m =
-        absurd (forall-refuted f at (item_deeds ss false item ++ with_deeds intents ++ body_deeds (in_loop ss ForallWord xs item) body) m)
+        absurd (forall-refuted f at (item_deeds ss item ++ with_deeds intents ++ body_deeds (in_loop ss ForallWord xs item) body) m)
     turn-outer (Coforall at xs word item intents body) ss stands within s c h m = absurd c
     turn-outer (On at e body) ss stands within s c h m = absurd c
 

@@ -1,6 +1,6 @@
 -- A program that has no refusal runs: what the lexer, the grammar and the rules leave of it is one, and plain, so that the walk makes its steps.
 -- Its places are near, since its text is short.
-use Rattle.std.proofs.Common.{◌≡◌, ℕ, suc, arith, List, [], ◌∷◌, ◌++◌, Option, Some, None, refl}
+use Rattle.std.proofs.Common.{◌≡◌, ℕ, suc, arith, List, [], ◌∷◌, Option, Some, None, refl}
 use Rattle.dpl_syntax.specs.declared.place.Place.{Place}
 use Rattle.dpl_syntax.specs.declared.refusal.Breach.{Breach}
 use Rattle.dpl_syntax.specs.declared.token.Token.{Token}
@@ -12,8 +12,6 @@ use Rattle.dpl_language.specs.Names.{Text}
 use Rattle.dpl_grammar.specs.Each.{Each}
 use Rattle.dpl_spelling.specs.Spelt.{StmtsSpelt}
 use Rattle.dpl_rules.specs.Breaches.{top, top_sight, stmts_breaches, count_breaches, all_declarations, first_breach}
-use Rattle.dpl_rules.specs.Doings.{stmts_deeds}
-use Rattle.dpl_rules.specs.Bodies.{inner_reductions}
 use Rattle.dpl_rules.specs.Sound.{IsSound, sets_fit, behind_all, refusal_by}
 use Rattle.dpl_rules.proofs.Admission.{first_empty}
 use Rattle.dpl_rules.proofs.Soundness.{sound_exactly, sound_admitted}
@@ -44,9 +42,7 @@ unbroken (Some b) fit e = absurd cc
 -- of a sound program the walk over its statements tells no breach
 pub walk-unbroken : (t : ProgramTree Text) → IsSound t → stmts_breaches top_sight t.stmts ≡ []
 walk-unbroken t h =
-    let within = stmts_breaches top_sight t.stmts in
-    let reductions = inner_reductions (stmts_deeds top t.stmts) in
-    first_empty within reductions (first_empty (within ++ reductions) (count_breaches (all_declarations t.stmts)) h)
+    first_empty (stmts_breaches top_sight t.stmts) (count_breaches (all_declarations t.stmts)) h
 
 module _ (text : List ℕ) (sets : List (List ℕ)) (t : ProgramTree Text) (is : IsProgram text sets t) where
   pub program-spelt : StmtsSpelt IsNear ⊥ t.stmts

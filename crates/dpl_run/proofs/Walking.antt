@@ -26,5 +26,5 @@ module _ (sets : List (List ℕ)) (tokens : List Token) (t : ProgramTree Text) (
   walk-first none = unbroken w.first (sets_fit w.scopes [] sets) (sym is ∙ none)
 
 -- so the walk over a program without a refusal gives its plan
-pub walk-makes : (text : List ℕ) (sets : List (List ℕ)) (t : ProgramTree Text) (w : Walked) → IsProgram text sets t → w.first ≡ None → MakesStmts top t.stmts w.first w.steps.now → w.slots ≡ slots_of t → w.scopes ≡ behind_all top t.stmts → IsWalked t w
+pub walk-makes : (text : List ℕ) (sets : List (List ℕ)) (t : ProgramTree Text) (w : Walked) → IsProgram text sets t → w.first ≡ None → MakesStmts top t.stmts w.first w.steps.items → w.slots ≡ slots_of t → w.scopes ≡ behind_all top t.stmts → IsWalked t w
 walk-makes text sets t w is none makes slots scopes = record { steps = makes none (program-plain text sets t is); slots = slots; scopes = scopes }

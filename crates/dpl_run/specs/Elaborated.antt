@@ -24,7 +24,7 @@ IsUnrefused t sets = (text : List ℕ) × IsProgram text sets t
 
 -- what the walk over such a program gives: its steps, how many slots they need, and its top level
 pub record IsWalked (t : ProgramTree Text) (w : Walked) : Type 0 where
-  pub steps : stmts_leaves top t.stmts ≡ steps_of w.steps.now
+  pub steps : stmts_leaves top t.stmts ≡ steps_of w.steps.items
   pub slots : w.slots ≡ slots_of t
   pub scopes : w.scopes ≡ behind_all top t.stmts
 
@@ -40,4 +40,4 @@ program_of c = record { tree = program_view c.program.value; sets = map (λ set.
 
 -- and that it was
 abbrev pub IsChecked : Checked → Type 0
-IsChecked c = IsElaborated (program_of c).tree (program_of c).sets c.slots c.scopes c.steps.now c.words.items
+IsChecked c = IsElaborated (program_of c).tree (program_of c).sets c.slots c.scopes c.steps.items c.words.items

@@ -11,7 +11,7 @@ pub struct Checked<'s, 't> {
     // In a box, since steps and trees together lead to more than the front end takes of one type.
     pub(crate) program: Box<Program<'t>>,
     pub(crate) sets: &'s [&'s str],
-    pub(crate) steps: &'t [Step<'t>],
+    pub(crate) steps: Vec<Step<'t>>,
     // How many slots a frame needs.
     pub(crate) slots: usize,
     // The names at the program's end: its top level.

@@ -102,7 +102,7 @@ pub(crate) fn run_to_end<R: Threads + Wait + Sync, G: Gate + Sync>(
     ensures unwritten { IfErr result (IsUnwritten (MayRefuseSome (G.may_refuse gate.now))) }
 {
     let frame = first_frame(alloc, checked.slots, &checked.words, config)?;
-    run(rt, alloc, checked.steps, frame, &checked.scopes, gate)
+    run(rt, alloc, &checked.steps, frame, &checked.scopes, gate)
 }
 
 /// Runs a program that was checked: what is written, and the outcome, are those of the language's definition, in which a forall is a

@@ -14,8 +14,8 @@ use Rattle.dpl_rules.specs.Sights.{Scopes, Reducing, Sight, lookup, enter}
 use Rattle.dpl_rules.specs.Assignments.{may_reduce_in}
 use Rattle.dpl_rules.specs.Declarations.{declared_by}
 use Rattle.dpl_rules.specs.Loops.{LoopWord, header_breaches, with_breaches, reducing_in, in_loop, behind}
-use Rattle.dpl_rules.specs.Deeds.{AForall, Deed, Holds}
-use Rattle.dpl_rules.specs.Bodies.{forall_scope, each, deed_breaches}
+use Rattle.dpl_rules.specs.Deeds.{AForall, Deed, Holds, each}
+use Rattle.dpl_rules.specs.Bodies.{forall_scope, deed_breaches}
 use Rattle.dpl_rules.specs.Breaches.{stmt_breaches}
 use Rattle.dpl_rules.proofs.Admission.{first_empty, second_empty}
 use Rattle.dpl_memory.specs.Memory.{VariableKind}

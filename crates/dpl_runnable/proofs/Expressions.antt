@@ -18,8 +18,9 @@ use Rattle.dpl_rules.specs.Verdicts.{Part, part, type_by, broken_by, owed, with_
 use Rattle.dpl_rules.specs.Places.{first_of, last_of, last_of_post}
 use Rattle.dpl_rules.specs.Sights.{Declared, Scopes, lookup, type_declared}
 use Rattle.dpl_rules.specs.Operators.{prefix_verdict, reduction_verdict, infix_verdict, any_strided, ranges_breaches, ranges_verdict}
+use Rattle.dpl_rules.specs.Deeds.{inner_reductions}
 use Rattle.dpl_rules.specs.Expressions.{plain_name, name_verdict, bare_locales, locales_or, none_where, type_of, item_type, range_item_verdict, chain_type, posts_type, post_verdict, method_verdict, item_parts, more_item_parts, expr_parts}
-use Rattle.dpl_rules.specs.Expressions.{expr_breaches, item_breaches, stride_breaches, chain_breaches, posts_breaches, post_breaches, method_breaches, items_breaches, more_items_breaches, exprs_breaches, more_exprs_breaches}
+use Rattle.dpl_rules.specs.Expressions.{inner_chain, expr_breaches, item_breaches, stride_breaches, chain_breaches, posts_breaches, post_breaches, method_breaches, items_breaches, more_items_breaches, exprs_breaches, more_exprs_breaches}
 use Rattle.dpl_rules.proofs.Admission.{first_empty, second_empty}
 use Rattle.dpl_sound.proofs.Given.{some-same, judged-gives}
 use Rattle.dpl_sound.proofs.Known.{IsTyped, told-typed, AreKnown, infix-by, post-told, type_of-known, item_type-known}
@@ -248,8 +249,9 @@ module _ (scopes : Scopes) (P : Place → Type 0) (names : AreVariables scopes) 
         }
     runnable (Chain e rest) s c h =
         let told = chain_breaches scopes (type_of scopes e) rest in
-        let first = runnable e s.1 c.0 (first_empty (expr_breaches scopes e) told h) in
-        let others = runnable_links rest (type_of scopes e) first.variable s.2 c.1 (second_empty (expr_breaches scopes e) told h) in
+        let parts = first_empty (expr_breaches scopes e ++ told) (inner_reductions (inner_chain scopes e rest)) h in
+        let first = runnable e s.1 c.0 (first_empty (expr_breaches scopes e) told parts) in
+        let others = runnable_links rest (type_of scopes e) first.variable s.2 c.1 (second_empty (expr_breaches scopes e) told parts) in
         record { found = (first.found, others.found, one_level-nests rest s.0); variable = others.variable }
     runnable (Postfixed e posts) s c h =
         let own = none_where (bare_locales e) (expr_breaches scopes e) in

@@ -20,6 +20,7 @@ use Rattle.dpl_rules.specs.Types.{Origin, ValueType, domain_of, is_int}
 use Rattle.dpl_rules.specs.Verdicts.{breach, owed_type}
 use Rattle.dpl_rules.specs.Places.{first_of, first_of_item}
 use Rattle.dpl_rules.specs.Sights.{Scopes}
+use Rattle.dpl_rules.specs.Deeds.{map_deeds, inner_reductions}
 use Rattle.dpl_rules.specs.Expressions.{type_of, item_type, bare_locales, none_where, expr_breaches, item_breaches, side_part, side_breaches}
 use Rattle.dpl_rules.specs.Maps.{LowTree, post_low, posts_low, front_of, owed_rank, box_of, int_start, plain_start, domain_start, low_start, int_breaches, start_breaches, map_breaches, mapped_breaches}
 use Rattle.dpl_rules.specs.Declarations.{type_rank, is_untyped, declared_type, agreeing, unmapped, create_breaches, type_breaches, untyped_breaches, typed_breaches, typed_initial, written_breaches}
@@ -162,7 +163,8 @@ module _ (scopes : Scopes) (names : AreVariables scopes) where
 
   mapped-found : (rank : Option ℕ) (o : Option (MappedTree Text)) → IfThere (MappedSpelt IsNear ⊥) o → UntaskedIf UntaskedMapped o → mapped_breaches scopes rank o ≡ [] → IsFoundMap scopes o
   mapped-found rank None s c h = tt
-  mapped-found rank (Some m) s c h = (map-found rank m.map s.1 c h, s.1)
+  mapped-found rank (Some m) s c h =
+      (map-found rank m.map s.1 c (first_empty (map_breaches scopes rank m.map) (inner_reductions (map_deeds scopes m.map)) h), s.1)
 
   -- ---- DECLARATIONS
   untyped-found : (init : InitTree Text) → InitSpelt IsNear ⊥ init → UntaskedInit init → untyped_breaches scopes init ≡ [] → IsFoundMap scopes (init_map init)

@@ -1,6 +1,6 @@
 -- A statement that a text spells, that needs nothing which doesn't run and that breaks no rule is runnable, where each name in
 -- sight has a type of some kind; and so is a program.
-use Rattle.std.proofs.Common.{◌≡◌, false, [], ◌++◌, Option, Some, None, refl}
+use Rattle.std.proofs.Common.{◌≡◌, [], ◌++◌, Option, Some, None, refl}
 use Rattle.dpl_language.specs.Tree.{Whole, Element, StmtTree, Nothing, Declare, Assigned, Call, Write, Block, If, While, For, Forall, Coforall, On, Body, WordBody, BlockBody, Stmts, NoStmts, Then, Else, NoElse, ElseDo}
 use Rattle.dpl_language.specs.Names.{Text}
 use Rattle.dpl_spelling.specs.Spelt.{StmtSpelt, BodySpelt, StmtsSpelt, ElseSpelt}
@@ -49,7 +49,7 @@ mutual
       let one = body_breaches (sight_by f (enter ss)) first in
       let other = else_breaches (sight_by f (enter ss)) second in
       let front = first_empty (test ++ one) other h in
-      let tested = expr_deeds ss false e in
+      let tested = expr_deeds ss e in
       let first_deeds = body_deeds (enter ss) first in
       let second_deeds = else_deeds (enter ss) second in (
         runnable_condition ss stands.names (forall_by f) e s.1 c.0 (first_empty test one front),
@@ -63,7 +63,7 @@ mutual
       let others = body_breaches (sight_by f (enter ss)) body in (
         runnable_condition ss stands.names (forall_by f) e s.1 c.0 (first_empty test others h),
         runnable_body body f (enter ss) (enter-stands f ss stands) s.2 w c.1 (second_empty test others h)
-            (second-done f (expr_deeds ss false e) (body_deeds (enter ss) body) m),
+            (second-done f (expr_deeds ss e) (body_deeds (enter ss) body) m),
         s.0,
       )
   runnable_stmt (For at xs word item body) f ss stands s w c h m =
@@ -74,7 +74,7 @@ mutual
       let headed = first_empty head others h in (
         runnable_header ss stands.names ForWord xs item w.0 s.3 closed headed,
         runnable_body body f inner (loop-stands IsNear ss f ForWord xs item stands s.3 closed headed) s.4 w.1 c.1 (second_empty head others h)
-            (second-done f (item_deeds ss false item) (body_deeds inner body) m),
+            (second-done f (item_deeds ss item) (body_deeds inner body) m),
         s.0,
       )
   runnable_stmt (Forall at xs word item intents body) None ss stands s w c h m =
@@ -103,7 +103,7 @@ mutual
         s.0,
       )
   runnable_stmt (Forall at xs word item intents body) (Some f) ss stands s w c h m =
-      absurd (forall-refuted f at (item_deeds ss false item ++ with_deeds intents ++ body_deeds (in_loop ss ForallWord xs item) body) m)
+      absurd (forall-refuted f at (item_deeds ss item ++ with_deeds intents ++ body_deeds (in_loop ss ForallWord xs item) body) m)
   runnable_stmt (Coforall at xs word item intents body) f ss stands s w c h m = absurd c
   runnable_stmt (On at e body) f ss stands s w c h m = absurd c
 

@@ -7,7 +7,6 @@ use Rattle.std.specs.Prelude.{bytes_eq, if◌then◌else◌}
 use Rattle.dpl_language.specs.Names.{Text}
 use Rattle.dpl_rules.specs.Sights.{Declared, lookup, declared_here}
 use Rattle.dpl_scopes.specs.declared.scopes.Mark.{Mark}
-use Rattle.dpl_scopes.specs.declared.scopes.Entry.{Entry}
 use Rattle.dpl_scopes.specs.declared.scopes.Mark.TheVariants.{Opens, Declares}
 use Rattle.dpl_scopes.specs.View.{declared_view}
 use Rattle.dpl_scopes.specs.Marks.{scopes_by, place, AreKept}
@@ -27,9 +26,10 @@ declaration None = None
 declaration (Some Opens) = None
 declaration (Some (Declares e)) = Some (declared_view e.declared)
 
-abbrev pub declaration_at : List Mark → Option ℕ → Option Declared
-declaration_at ms None = None
-declaration_at ms (Some k) = declaration (slice_get ms k)
+-- what is read of the mark at a place
+abbrev pub read_at : {A : Type 0} → (Option Mark → Option A) → List Mark → Option ℕ → Option A
+read_at read ms None = None
+read_at read ms (Some k) = read (slice_get ms k)
 
 slice_get-before : {A : Type 0} (xs : List A) (x : A) (k : ℕ) → k < length xs → slice_get (xs ++ x ∷ []) k ≡ slice_get xs k
 slice_get-before [] x k h = absurd (omega (arith, h))
@@ -51,29 +51,29 @@ place-below (Declares e ∷ ms) x =
     elim (bytes_eq x e.declared.origin.name.now) as (λ t. IfSome (if t then Some (length ms) else place ms x) (λ k. k < suc (length ms)))
     [ true ↦ omega arith | false ↦ below-more (place ms x) (length ms) (place-below ms x) ]
 
-earlier : (ms : List Mark) (m : Mark) (k : Option ℕ) → IfSome k (λ k. k < length ms) → declaration_at (reverse ms ++ m ∷ []) k ≡ declaration_at (reverse ms) k
-earlier ms m None h = refl
-earlier ms m (Some k) h = ap declaration (slice_get-before (reverse ms) m k (subst (λ n. k < n) (sym (length-reverse ms)) h))
+pub earlier : {A : Type 0} (read : Option Mark → Option A) (ms : List Mark) (m : Mark) (k : Option ℕ) → IfSome k (λ k. k < length ms) → read_at read (reverse ms ++ m ∷ []) k ≡ read_at read (reverse ms) k
+earlier read ms m None h = refl
+earlier read ms m (Some k) h = ap read (slice_get-before (reverse ms) m k (subst (λ n. k < n) (sym (length-reverse ms)) h))
 
-latest : (ms : List Mark) (e : Entry) → declaration_at (reverse ms ++ Declares e ∷ []) (Some (length ms)) ≡ Some (declared_view e.declared)
-latest ms e = ap (λ n. declaration (slice_get (reverse ms ++ Declares e ∷ []) n)) (sym (length-reverse ms)) ∙ ap declaration (slice_get-last (reverse ms) (Declares e))
+pub latest : {A : Type 0} (read : Option Mark → Option A) (ms : List Mark) (m : Mark) → read_at read (reverse ms ++ m ∷ []) (Some (length ms)) ≡ read (Some m)
+latest read ms m = ap (λ n. read (slice_get (reverse ms ++ m ∷ []) n)) (sym (length-reverse ms)) ∙ ap read (slice_get-last (reverse ms) m)
 
 -- what was declared last is at the place of the name
-lookup-scopes_by : (ms : List Mark) (x : Text) → declaration_at (reverse ms) (place ms x) ≡ lookup (scopes_by ms) x
+lookup-scopes_by : (ms : List Mark) (x : Text) → read_at declaration (reverse ms) (place ms x) ≡ lookup (scopes_by ms) x
 lookup-scopes_by [] x = refl
 lookup-scopes_by (Opens ∷ ms) x =
-    ap (λ l. declaration_at l (place ms x)) (reverse-append (Opens ∷ []) ms)
-    ∙ earlier ms Opens (place ms x) (place-below ms x)
+    ap (λ l. read_at declaration l (place ms x)) (reverse-append (Opens ∷ []) ms)
+    ∙ earlier declaration ms Opens (place ms x) (place-below ms x)
     ∙ lookup-scopes_by ms x
 lookup-scopes_by (Declares e ∷ ms) x =
-    ap (λ l. declaration_at l (place (Declares e ∷ ms) x)) (reverse-append (Declares e ∷ []) ms)
-    ∙ (elim (bytes_eq x e.declared.origin.name.now) as (λ t. declaration_at (reverse ms ++ Declares e ∷ []) (if t then Some (length ms) else place ms x) ≡ (if t then Some (declared_view e.declared) else lookup (scopes_by ms) x))
-    [ true ↦ latest ms e | false ↦ earlier ms (Declares e) (place ms x) (place-below ms x) ∙ lookup-scopes_by ms x ])
+    ap (λ l. read_at declaration l (place (Declares e ∷ ms) x)) (reverse-append (Declares e ∷ []) ms)
+    ∙ (elim (bytes_eq x e.declared.origin.name.now) as (λ t. read_at declaration (reverse ms ++ Declares e ∷ []) (if t then Some (length ms) else place ms x) ≡ (if t then Some (declared_view e.declared) else lookup (scopes_by ms) x))
+    [ true ↦ latest declaration ms (Declares e) | false ↦ earlier declaration ms (Declares e) (place ms x) (place-below ms x) ∙ lookup-scopes_by ms x ])
     ∙ sym (lookup-add (declared_view e.declared) (scopes_by ms) x)
 
 -- the same of marks in order
-pub lookup-marks : (ms : List Mark) (x : Text) → declaration_at ms (place (reverse ms) x) ≡ lookup (scopes_by (reverse ms)) x
-lookup-marks ms x = ap (λ l. declaration_at l (place (reverse ms) x)) (sym (reverse-reverse ms)) ∙ lookup-scopes_by (reverse ms) x
+pub lookup-marks : (ms : List Mark) (x : Text) → read_at declaration ms (place (reverse ms) x) ≡ lookup (scopes_by (reverse ms)) x
+lookup-marks ms x = ap (λ l. read_at declaration l (place (reverse ms) x)) (sym (reverse-reverse ms)) ∙ lookup-scopes_by (reverse ms) x
 
 -- ---- whether a name is declared in the innermost scope
 -- a declaration in sight is in the innermost scope, if it is as deep as that; what no scope was open around, is in the first
@@ -95,7 +95,7 @@ declared_here-deep (Opens ∷ ms) kept x = entered (length (scopes_by ms)) (decl
 declared_here-deep (Declares e ∷ ms) kept x =
     let d = declared_view e.declared in
     let ss = scopes_by ms in
-    let rest = added (length ss) (declared_here ss x) (lookup ss x) (declared_here-deep ms kept.2 x) in
+    let rest = added (length ss) (declared_here ss x) (lookup ss x) (declared_here-deep ms kept.3 x) in
     let one = subst (λ n. IsDeepIn (max n 1) true (Some d)) kept.0 (omega arith, sym (eq-eqb (max d.origin.depth 1) (max d.origin.depth 1) refl)) in
     rw (length-add d ss, declared_here-add d ss x, lookup-add d ss x)
     (elim (bytes_eq x e.declared.origin.name.now) as (λ t. IsDeepIn (max (length ss) 1) (if t then true else declared_here ss x) (if t then Some d else lookup ss x))

@@ -1,7 +1,7 @@
--- The slots of declarations, by the marks that made them: a mark's place, behind the scope that no mark opened.
+-- Slots, by the marks: the next is as many as there are marks, behind the scope that no mark opened, and that of a name is what its mark holds.
 -- Marks are the latest first here, and in order where a lemma says `reverse`.
-use Rattle.std.proofs.Common.{◌≡◌, ℕ, suc, ◌+◌, ◌<◌, ◌≤◌, max, true, false, List, [], ◌∷◌, ◌++◌, length, reverse, Option, Some, None, is_some, IfSome, slice_get, option_map, refl, sym, ap, subst, ◌∙◌, arith}
-use Rattle.std.proofs.lemmas.List.{length-reverse, reverse-append}
+use Rattle.std.proofs.Common.{◌≡◌, ℕ, suc, ◌+◌, max, true, false, List, [], ◌∷◌, ◌++◌, length, reverse, Option, Some, None, is_some, slice_get, refl, sym, ap, ◌∙◌, arith}
+use Rattle.std.proofs.lemmas.List.{length-reverse, reverse-append, reverse-reverse}
 use Rattle.std.specs.Prelude.{bytes_eq, if◌then◌else◌}
 use Rattle.std.specs.Borrow.{Bor}
 use Rattle.std.specs.Option.{option_flatten, option_or}
@@ -9,13 +9,12 @@ use Rattle.indexmap.specs.IndexMap.{IndexMap, get}
 use Rattle.dpl_language.specs.Names.{Text}
 use Rattle.dpl_rules.specs.Sights.{Declared, Scope, Scopes, find, lookup, add}
 use Rattle.dpl_scopes.specs.declared.scopes.Mark.{Mark}
-use Rattle.dpl_scopes.specs.declared.scopes.Entry.{Entry}
 use Rattle.dpl_scopes.specs.declared.scopes.Mark.TheVariants.{Opens, Declares}
 use Rattle.dpl_scopes.specs.View.{declared_view}
-use Rattle.dpl_scopes.specs.Marks.{scopes_by, place, unmarked, unmarked_by}
-use Rattle.dpl_scopes.specs.Kept.{same_text, ArePlaces}
+use Rattle.dpl_scopes.specs.Marks.{scopes_by, place, unmarked, unmarked_by, AreKept}
+use Rattle.dpl_scopes.specs.Kept.{same_text, IsKept}
 use Rattle.dpl_scopes.specs.Slots.{count_in, next_slot_in, place_in, slot_or, slot_in}
-use Rattle.dpl_scopes.proofs.Marks.{place-below}
+use Rattle.dpl_scopes.proofs.Marks.{place-below, read_at, earlier, latest}
 
 -- ---- one more declaration
 pub count_in-add : (d : Declared) (ss : Scopes) → count_in (add d ss) ≡ suc (next_slot_in ss)
@@ -40,22 +39,6 @@ count_in-scopes_by (Declares e ∷ m ∷ ms) =
     let more = count_in-add (declared_view e.declared) (scopes_by (m ∷ ms)) in
     omega (arith, more, count_in-scopes_by (m ∷ ms))
 
-next_slot_in-scopes_by : (e : Entry) (ms : List Mark) → next_slot_in (scopes_by ms) ≡ length ms + unmarked (Declares e ∷ ms)
-next_slot_in-scopes_by e [] = refl
-next_slot_in-scopes_by e (m ∷ ms) = omega (arith, count_in-scopes_by (m ∷ ms))
-
-pub slot_in-scopes_by : (ms : List Mark) (x : Text) → slot_in (scopes_by ms) x ≡ option_map (λ k. k + unmarked ms) (place ms x)
-slot_in-scopes_by [] x = refl
-slot_in-scopes_by (Opens ∷ ms) x = slot_in-scopes_by ms x
-slot_in-scopes_by (Declares e ∷ ms) x =
-    slot_in-add (declared_view e.declared) (scopes_by ms) x
-    ∙ (elim (bytes_eq x e.declared.origin.name.now) as (λ t. (if t then Some (next_slot_in (scopes_by ms)) else slot_in (scopes_by ms) x) ≡ option_map (λ k. k + unmarked (Declares e ∷ ms)) (if t then Some (length ms) else place ms x))
-    [ true ↦ ap Some (next_slot_in-scopes_by e ms) | false ↦ before ms (slot_in-scopes_by ms x) ])
-  where
-    before : (ms : List Mark) → slot_in (scopes_by ms) x ≡ option_map (λ k. k + unmarked ms) (place ms x) → slot_in (scopes_by ms) x ≡ option_map (λ k. k + unmarked (Declares e ∷ ms)) (place ms x)
-    before [] behind = refl
-    before (m ∷ ms) behind = behind
-
 -- ---- by the mark that was made first
 unmarked-last : (ms : List Mark) (m : Mark) → unmarked (ms ++ m ∷ []) ≡ unmarked_by (Some m)
 unmarked-last [] Opens = refl
@@ -68,28 +51,38 @@ pub unmarked-reverse : (ms : List Mark) → unmarked (reverse ms) ≡ unmarked_b
 unmarked-reverse [] = refl
 unmarked-reverse (m ∷ ms) = ap unmarked (reverse-append (m ∷ []) ms) ∙ unmarked-last (reverse ms) m
 
-pub unmarked_by-short : (m : Option Mark) → unmarked_by m ≤ 1
-unmarked_by-short None = omega arith
-unmarked_by-short (Some Opens) = omega arith
-unmarked_by-short (Some (Declares e)) = omega arith
-
 -- ---- what is answered
 pub next_slot-marks : (marks : List Mark) → max (length marks + unmarked_by (slice_get marks 0)) 1 ≡ next_slot_in (scopes_by (reverse marks))
 next_slot-marks marks = omega (arith, count_in-scopes_by (reverse marks), length-reverse marks, unmarked-reverse marks)
 
-module _ {S : Type 0} (marks : List Mark) (places : IndexMap (Bor Text) (Option ℕ) S) (placed : ArePlaces places (reverse marks)) (name : Bor Text) where
-  pub slot-get : (found : Option (Option ℕ)) → found ≡ get same_text places name
-      → option_map (λ k. k + unmarked_by (slice_get marks 0)) (option_flatten found) ≡ slot_in (scopes_by (reverse marks)) name.now
-  slot-get found is =
-      ap (option_map (λ k. k + unmarked_by (slice_get marks 0))) (ap option_flatten is ∙ placed name)
-      ∙ ap (λ n. option_map (λ k. k + n) (place (reverse marks) name.now)) (sym (unmarked-reverse marks))
-      ∙ sym (slot_in-scopes_by (reverse marks) name.now)
+abbrev pub slot_of : Option Mark → Option ℕ
+slot_of None = None
+slot_of (Some Opens) = None
+slot_of (Some (Declares e)) = Some e.declared.slot
 
-  -- a place is that of a mark
-  pub place-within : (k : ℕ) → Some (Some k) ≡ get same_text places name → k < length marks
-  place-within k is =
-      let at : place (reverse marks) name.now ≡ Some k = sym (placed name) ∙ ap option_flatten (sym is) in
-      subst (λ n. k < n) (length-reverse marks) (subst (λ o. IfSome o (λ k. k < length (reverse marks))) at (place-below (reverse marks) name.now))
+-- what was declared last is at the place of the name, with its slot
+slot-scopes_by : (ms : List Mark) → AreKept ms → (x : Text) → read_at slot_of (reverse ms) (place ms x) ≡ slot_in (scopes_by ms) x
+slot-scopes_by [] kept x = refl
+slot-scopes_by (Opens ∷ ms) kept x =
+    ap (λ l. read_at slot_of l (place ms x)) (reverse-append (Opens ∷ []) ms)
+    ∙ earlier slot_of ms Opens (place ms x) (place-below ms x)
+    ∙ slot-scopes_by ms kept x
+slot-scopes_by (Declares e ∷ ms) kept x =
+    ap (λ l. read_at slot_of l (place (Declares e ∷ ms) x)) (reverse-append (Declares e ∷ []) ms)
+    ∙ (elim (bytes_eq x e.declared.origin.name.now) as (λ t. read_at slot_of (reverse ms ++ Declares e ∷ []) (if t then Some (length ms) else place ms x) ≡ (if t then Some (next_slot_in (scopes_by ms)) else slot_in (scopes_by ms) x))
+    [ true ↦ latest slot_of ms (Declares e) ∙ ap Some kept.1 | false ↦ earlier slot_of ms (Declares e) (place ms x) (place-below ms x) ∙ slot-scopes_by ms kept.3 x ])
+    ∙ sym (slot_in-add (declared_view e.declared) (scopes_by ms) x)
+
+module _ {S : Type 0} (marks : List Mark) (places : IndexMap (Bor Text) (Option ℕ) S) (depth : ℕ) (kept : IsKept marks places depth) (name : Bor Text) where
+  pub slot-get : (found : Option (Option ℕ)) → found ≡ get same_text places name → slot_in (scopes_by (reverse marks)) name.now ≡ read_at slot_of marks (option_flatten found)
+  slot-get found is =
+      sym (slot-scopes_by (reverse marks) kept.kept name.now)
+      ∙ ap (λ l. read_at slot_of l (place (reverse marks) name.now)) (reverse-reverse marks)
+      ∙ ap (read_at slot_of marks) (sym (kept.placed name) ∙ ap option_flatten (sym is))
+
+  -- by the mark at its place
+  pub slot-mark : (k : ℕ) (mark : Option Mark) → Some (Some k) ≡ get same_text places name → slice_get marks k ≡ mark → slot_in (scopes_by (reverse marks)) name.now ≡ slot_of mark
+  slot-mark k mark is at = slot-get (Some (Some k)) is ∙ ap slot_of at
 
 -- ---- names that are in sight, and no others, have slots
 place_in-find : (s : Scope) (x : Text) (begin : ℕ) → is_some (place_in s x begin) ≡ is_some (find s x)

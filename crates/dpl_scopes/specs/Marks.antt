@@ -6,6 +6,7 @@ use Rattle.dpl_rules.specs.Sights.{Scopes, enter, add}
 use Rattle.dpl_scopes.specs.declared.scopes.Mark.{Mark}
 use Rattle.dpl_scopes.specs.declared.scopes.Mark.TheVariants.{Opens, Declares}
 use Rattle.dpl_scopes.specs.View.{declared_view}
+use Rattle.dpl_scopes.specs.Slots.{next_slot_in}
 
 abbrev pub scopes_by : List Mark → Scopes
 scopes_by [] = []
@@ -31,8 +32,9 @@ unmarked_by None = 0
 unmarked_by (Some Opens) = 0
 unmarked_by (Some (Declares e)) = 1
 
--- each declaration has the depth at which it stands, and the place of the one that it hides
+-- each declaration has the depth at which it stands, its slot, and the place of the one that it hides
 abbrev pub AreKept : List Mark → Type 0
 AreKept [] = Unit {0}
 AreKept (Opens ∷ ms) = AreKept ms
-AreKept (Declares e ∷ ms) = (e.declared.origin.depth ≡ length (scopes_by ms)) × (e.hidden ≡ place ms e.declared.origin.name.now) × AreKept ms
+AreKept (Declares e ∷ ms) =
+    (e.declared.origin.depth ≡ length (scopes_by ms)) × (e.declared.slot ≡ next_slot_in (scopes_by ms)) × (e.hidden ≡ place ms e.declared.origin.name.now) × AreKept ms

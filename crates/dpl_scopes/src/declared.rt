@@ -1,4 +1,4 @@
-// A declaration: which one it is, its sort, and the type of what it declares.
+// A declaration: which one it is, its sort, the type of what it declares, and its slot.
 // specs/View.antt gives the declaration of the language's check that it stands for.
 
 ghost use Rattle.std.specs.Prelude.{◌≡◌};
@@ -28,6 +28,8 @@ pub struct Declared<'t> {
     pub sort: Sort,
     /// The type of what it declares; none, if the declaration was refused.
     pub value_type: Option<ValueType<'t>>,
+    /// The slot of its name: as many scopes and declarations as were in sight before it.
+    pub slot: usize,
 }
 
 impl Sort {

@@ -121,6 +121,7 @@ impl<'t> Scopes<'t> {
             ≡ add (record { origin = origin_in self.old name.now; sort = sort_view sort; type = of_type value_type.entry }) self.old) }
         ensures err { OnErr result (self.new ≡ self.old) }
     {
+        let slot = self.next_slot();
         self.marks.reserve(1)?;
         let hidden = self.places.insert(name, Some(self.marks.len()))?.flatten();
         let origin = Origin {
@@ -131,6 +132,7 @@ impl<'t> Scopes<'t> {
             origin,
             sort,
             value_type,
+            slot,
         };
         self.marks
             .push(Mark::Declares(Entry { declared, hidden }))
@@ -141,22 +143,14 @@ impl<'t> Scopes<'t> {
 
     /// The innermost declaration of a name, if one is in sight.
     pub fn lookup(&self, name: &[u8]) -> Option<Declared<'t>>
-        ensures { option_map declared_view result ≡ lookup self.now name.now }
+        ensures declared { option_map declared_view result ≡ lookup self.now name.now }
+        ensures slot { option_map (λ d. d.slot) result ≡ slot_in self.now name.now }
     {
         let place = (*self.places.get(&name)?)?;
         match self.marks.get(place)? {
             Mark::Declares(entry) => Some(entry.declared),
             Mark::Opens => None,
         }
-    }
-
-    /// The slot of the innermost declaration of a name, if one is in sight: as many scopes and declarations as were in
-    /// sight before it.
-    pub fn slot(&self, name: &[u8]) -> Option<usize>
-        ensures { result ≡ slot_in self.now name.now }
-    {
-        let place = (*self.places.get(&name)?)?;
-        Some(place + unmarked(&self.marks))
     }
 
     /// The slot that the next declaration gets.

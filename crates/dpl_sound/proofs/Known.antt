@@ -21,7 +21,8 @@ use Rattle.dpl_rules.specs.Operators.{between, alike, taking, infix_verdict, any
 use Rattle.dpl_rules.specs.Operators.{slice_breaches, locale_breaches, square_verdict, array_verdict, round_verdict, index_rank, domain_over, word_verdict, dim_verdict, contains_verdict, expand_verdict}
 use Rattle.dpl_rules.specs.Expressions.{plain_name, name_verdict, bare_locales, locales_or, none_where, type_of, item_type, range_item_verdict, chain_type, posts_type, post_verdict, method_verdict}
 use Rattle.dpl_rules.specs.Expressions.{item_parts, more_item_parts, expr_parts, more_expr_parts, expr_breaches, item_breaches, stride_breaches, chain_breaches, posts_breaches, post_breaches}
-use Rattle.dpl_rules.specs.Expressions.{method_breaches, items_breaches, more_items_breaches, exprs_breaches, more_exprs_breaches}
+use Rattle.dpl_rules.specs.Deeds.{inner_reductions}
+use Rattle.dpl_rules.specs.Expressions.{inner_chain, method_breaches, items_breaches, more_items_breaches, exprs_breaches, more_exprs_breaches}
 use Rattle.dpl_rules.proofs.Admission.{first_empty, second_empty}
 
 -- ---- verdicts that are looked at
@@ -200,8 +201,10 @@ module _ (scopes : Scopes) (known : AreKnown scopes) where
         (type_of-by (type_of scopes e) (λ t. reduced at (op_kind op) (operand_of t)) (type_of-known e (first_empty (expr_breaches scopes e) (broken_by verdict) h))
         (λ t. reduced-told at (op_kind op) (operand_of t))) (second_empty (expr_breaches scopes e) (broken_by verdict) h)
     type_of-known (Chain e rest) h =
-        chain_type-known rest (type_of scopes e) (type_of-known e (first_empty (expr_breaches scopes e) (chain_breaches scopes (type_of scopes e) rest) h))
-        (second_empty (expr_breaches scopes e) (chain_breaches scopes (type_of scopes e) rest) h)
+        let own = expr_breaches scopes e in
+        let others = chain_breaches scopes (type_of scopes e) rest in
+        let told = first_empty (own ++ others) (inner_reductions (inner_chain scopes e rest)) h in
+        chain_type-known rest (type_of scopes e) (type_of-known e (first_empty own others told)) (second_empty own others told)
     type_of-known (Postfixed e posts) h =
         let base = locales_or (bare_locales e) (type_of scopes e) in
         let own = none_where (bare_locales e) (expr_breaches scopes e) in

@@ -1,15 +1,13 @@
 -- A program that needs nothing which doesn't run yet and that breaks no rule prints and makes turns only where these may stand.
 -- It is said of the lowered tree whose names are resolved, as that tree is run.
-use Rattle.std.proofs.Common.{◌≡◌, [], ◌++◌, None, sym, subst}
+use Rattle.std.proofs.Common.{◌≡◌, [], None, sym, subst}
 use Rattle.dpl_language.specs.Tree.{ProgramTree}
 use Rattle.dpl_language.specs.Names.{Text}
 use Rattle.dpl_agreement.specs.Renamed.{renamed_stmts, renamed_program}
 use Rattle.dpl_lowered.specs.Known.{Known}
 use Rattle.dpl_lowered.specs.LoweredStatements.{lowered_program}
 use Rattle.dpl_agreement.specs.Untasked.{UntaskedStmts}
-use Rattle.dpl_rules.specs.Doings.{stmts_deeds}
-use Rattle.dpl_rules.specs.Bodies.{inner_reductions}
-use Rattle.dpl_rules.specs.Breaches.{top, top_sight, stmts_breaches, count_breaches, all_declarations, breaches, first_breach}
+use Rattle.dpl_rules.specs.Breaches.{top_sight, stmts_breaches, count_breaches, all_declarations, breaches, first_breach}
 use Rattle.dpl_rules.proofs.Admission.{first_empty}
 use Rattle.dpl_rules.proofs.Soundness.{sound_exactly}
 use Rattle.dpl_standing.specs.Standing.{Outside, AllMayStand}
@@ -20,9 +18,7 @@ use Rattle.dpl_standing.proofs.Ruled.{program_stmts-stand}
 -- ---- where nothing is broken no statement breaks a rule
 pub unbroken-stmts : (t : ProgramTree Text) → breaches t ≡ [] → stmts_breaches top_sight t.stmts ≡ []
 unbroken-stmts t h =
-    let within = stmts_breaches top_sight t.stmts in
-    let reductions = inner_reductions (stmts_deeds top t.stmts) in
-    first_empty within reductions (first_empty (within ++ reductions) (count_breaches (all_declarations t.stmts)) h)
+    first_empty (stmts_breaches top_sight t.stmts) (count_breaches (all_declarations t.stmts)) h
 
 pub refused-none : (t : ProgramTree Text) → first_breach t ≡ None → stmts_breaches top_sight t.stmts ≡ []
 refused-none t h = unbroken-stmts t ((sound_exactly t).1 h)

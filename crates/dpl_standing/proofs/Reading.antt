@@ -1,7 +1,7 @@
 -- Expressions and declarations write no array: of all that they do nothing is among the written arrays of a forall.
 -- What stands in a list of deeds is looked at in order, so that two lists one behind the other write what the first writes, and then the second.
 use Rattle.std.proofs.Common.{◌≡◌, Bool, true, false, List, [], ◌∷◌, ◌++◌, Option, Some, None, refl, sym, ap, ◌∙◌, append_assoc}
-use Rattle.std.specs.Prelude.{◌||◌, if◌then◌else◌}
+use Rattle.std.specs.Prelude.{if◌then◌else◌}
 use Rattle.std.specs.Option.{option_or}
 use Rattle.dpl_syntax.specs.declared.place.Place.{Place}
 use Rattle.dpl_language.specs.Tree.{ExprTree, Number, TruthWord, Named, LocalesWord, LocaleCount, HereWord, Grouped, DomainLiteral, Prefixed, Reduced, Chain, Postfixed, ItemTree, One, RangeItem, Stride, NoStride, By, Links, NoLinks, Link, Posts, NoPosts, Post, PostTree, Brackets, Rounds, Dotted, MethodTree, Plainly, Dim, Contains, Expand, CellRead, Items, FirstItem, MoreItems, NoItems, NextItem, Exprs, FirstExpr, MoreExprs, NoExprs, NextExpr}
@@ -10,12 +10,11 @@ use Rattle.dpl_language.specs.Tree.{CallTree, ReadCall, ResetCall, WriteCall, Pl
 use Rattle.dpl_language.specs.Names.{Text}
 use Rattle.dpl_language.specs.Phrases.{Base, BaseName, BaseLocales, OtherBase, base_of, parts}
 use Rattle.dpl_language.specs.Declarations.{type_of as written_type}
-use Rattle.dpl_rules.specs.Types.{Origin, ValueType, is_array, is_cell, has}
+use Rattle.dpl_rules.specs.Types.{Origin, is_array, is_cell, has}
 use Rattle.dpl_rules.specs.Places.{first_of_declaration}
 use Rattle.dpl_rules.specs.Sights.{Declared, Scopes, lookup, type_declared}
-use Rattle.dpl_rules.specs.Expressions.{type_of}
-use Rattle.dpl_rules.specs.Deeds.{Deed, Reads, ReadsAt, Writes, WritesAt, Holds, Holding, ADeclaration, ACellCall, AnInnerReduction, held_if, array_deeds, cell_deeds, items_index, exprs_index, name_deeds, declared_deeds, base_deeds, pair_type, has_promoted_pair, expr_deeds, item_deeds, stride_deeds, links_deeds, posts_deeds, post_deeds, method_deeds, items_deeds, more_items_deeds, exprs_deeds, more_exprs_deeds}
-use Rattle.dpl_rules.specs.Doings.{all_deeds, start_deeds, map_deeds, mapped_deeds, type_deeds, init_deeds, initial_deeds, declaration_deeds, is_apart, call_argument_deeds, call_deeds}
+use Rattle.dpl_rules.specs.Deeds.{Deed, Reads, ReadsAt, Writes, WritesAt, Holds, Holding, ADeclaration, ACellCall, held_if, array_deeds, cell_deeds, items_index, exprs_index, name_deeds, declared_deeds, base_deeds, expr_deeds, item_deeds, stride_deeds, links_deeds, posts_deeds, post_deeds, method_deeds, items_deeds, more_items_deeds, exprs_deeds, more_exprs_deeds, all_deeds, start_deeds, map_deeds, mapped_deeds}
+use Rattle.dpl_rules.specs.Doings.{type_deeds, init_deeds, initial_deeds, declaration_deeds, is_apart, call_argument_deeds, call_deeds}
 use Rattle.dpl_rules.specs.Bodies.{ForallScope, written_by, written_arrays}
 
 -- the name of the first
@@ -92,81 +91,77 @@ module _ (loop : ForallScope) where
   -- ---- expressions
   module _ (ss : Scopes) where
     mutual
-      pub expr-reads : (inner : Bool) (e : ExprTree Text) → ReadsAlone (expr_deeds ss inner e)
-      expr-reads inner (Number at n) = refl
-      expr-reads inner (TruthWord at b) = refl
-      expr-reads inner (Named x) = declared-reads ss x.at NoPosts (lookup ss x.name)
-      expr-reads inner (LocalesWord at) = refl
-      expr-reads inner (LocaleCount at) = refl
-      expr-reads inner (HereWord at) = refl
-      expr-reads inner (Grouped from item upto) = item-reads inner item
-      expr-reads inner (DomainLiteral from items upto) = items-read inner items
-      expr-reads inner (Prefixed at op e) = expr-reads inner e
-      expr-reads inner (Reduced at op word e) = both-read (held_if inner at AnInnerReduction) (expr_deeds ss inner e) (held-reads inner at AnInnerReduction) (expr-reads inner e)
-      expr-reads inner (Chain e rest) =
-          both-read (expr_deeds ss (inner || has_promoted_pair ss (type_of ss e) rest) e) (links_deeds ss inner (type_of ss e) rest)
-          (expr-reads (inner || has_promoted_pair ss (type_of ss e) rest) e) (links-read inner (type_of ss e) rest)
-      expr-reads inner (Postfixed e posts) =
-          both-read (base_deeds ss (base_of e) posts (expr_deeds ss inner e)) (posts_deeds ss inner posts)
-          (base-reads ss (base_of e) posts (expr_deeds ss inner e) (expr-reads inner e)) (posts-read inner posts)
+      pub expr-reads : (e : ExprTree Text) → ReadsAlone (expr_deeds ss e)
+      expr-reads (Number at n) = refl
+      expr-reads (TruthWord at b) = refl
+      expr-reads (Named x) = declared-reads ss x.at NoPosts (lookup ss x.name)
+      expr-reads (LocalesWord at) = refl
+      expr-reads (LocaleCount at) = refl
+      expr-reads (HereWord at) = refl
+      expr-reads (Grouped from item upto) = item-reads item
+      expr-reads (DomainLiteral from items upto) = items-read items
+      expr-reads (Prefixed at op e) = expr-reads e
+      expr-reads (Reduced at op word e) = expr-reads e
+      expr-reads (Chain e rest) = both-read (expr_deeds ss e) (links_deeds ss rest) (expr-reads e) (links-read rest)
+      expr-reads (Postfixed e posts) =
+          both-read (base_deeds ss (base_of e) posts (expr_deeds ss e)) (posts_deeds ss posts)
+          (base-reads ss (base_of e) posts (expr_deeds ss e) (expr-reads e)) (posts-read posts)
 
-      pub item-reads : (inner : Bool) (item : ItemTree Text) → ReadsAlone (item_deeds ss inner item)
-      item-reads inner (One e) = expr-reads inner e
-      item-reads inner (RangeItem low at dots high by) =
-          both-read (expr_deeds ss inner low ++ expr_deeds ss inner high) (stride_deeds ss inner by)
-          (both-read (expr_deeds ss inner low) (expr_deeds ss inner high) (expr-reads inner low) (expr-reads inner high)) (stride-reads inner by)
+      pub item-reads : (item : ItemTree Text) → ReadsAlone (item_deeds ss item)
+      item-reads (One e) = expr-reads e
+      item-reads (RangeItem low at dots high by) =
+          both-read (expr_deeds ss low ++ expr_deeds ss high) (stride_deeds ss by)
+          (both-read (expr_deeds ss low) (expr_deeds ss high) (expr-reads low) (expr-reads high)) (stride-reads by)
 
-      stride-reads : (inner : Bool) (by : Stride Text) → ReadsAlone (stride_deeds ss inner by)
-      stride-reads inner NoStride = refl
-      stride-reads inner (By at e) = expr-reads inner e
+      stride-reads : (by : Stride Text) → ReadsAlone (stride_deeds ss by)
+      stride-reads NoStride = refl
+      stride-reads (By at e) = expr-reads e
 
-      links-read : (inner : Bool) (t : Option ValueType) (rest : Links Text) → ReadsAlone (links_deeds ss inner t rest)
-      links-read inner t NoLinks = refl
-      links-read inner t (Link at op e rest) =
-          both-read (expr_deeds ss (inner || has_promoted_pair ss t (Link at op e rest)) e) (links_deeds ss inner (pair_type ss t at op e) rest)
-          (expr-reads (inner || has_promoted_pair ss t (Link at op e rest)) e) (links-read inner (pair_type ss t at op e) rest)
+      links-read : (rest : Links Text) → ReadsAlone (links_deeds ss rest)
+      links-read NoLinks = refl
+      links-read (Link at op e rest) = both-read (expr_deeds ss e) (links_deeds ss rest) (expr-reads e) (links-read rest)
 
-      posts-read : (inner : Bool) (posts : Posts Text) → ReadsAlone (posts_deeds ss inner posts)
-      posts-read inner NoPosts = refl
-      posts-read inner (Post p rest) = both-read (post_deeds ss inner p) (posts_deeds ss inner rest) (post-reads inner p) (posts-read inner rest)
+      posts-read : (posts : Posts Text) → ReadsAlone (posts_deeds ss posts)
+      posts-read NoPosts = refl
+      posts-read (Post p rest) = both-read (post_deeds ss p) (posts_deeds ss rest) (post-reads p) (posts-read rest)
 
-      post-reads : (inner : Bool) (p : PostTree Text) → ReadsAlone (post_deeds ss inner p)
-      post-reads inner (Brackets from items upto) = items-read inner items
-      post-reads inner (Rounds from es upto) = exprs-read inner es
-      post-reads inner (Dotted dot m) = method-reads inner m
+      post-reads : (p : PostTree Text) → ReadsAlone (post_deeds ss p)
+      post-reads (Brackets from items upto) = items-read items
+      post-reads (Rounds from es upto) = exprs-read es
+      post-reads (Dotted dot m) = method-reads m
 
-      method-reads : (inner : Bool) (m : MethodTree Text) → ReadsAlone (method_deeds ss inner m)
-      method-reads inner (Plainly at w) = refl
-      method-reads inner (Dim at from rank_at d upto) = refl
-      method-reads inner (Contains at from es upto) = exprs-read inner es
-      method-reads inner (Expand at from e upto) = expr-reads inner e
-      method-reads inner (CellRead at w from upto) = refl
+      method-reads : (m : MethodTree Text) → ReadsAlone (method_deeds ss m)
+      method-reads (Plainly at w) = refl
+      method-reads (Dim at from rank_at d upto) = refl
+      method-reads (Contains at from es upto) = exprs-read es
+      method-reads (Expand at from e upto) = expr-reads e
+      method-reads (CellRead at w from upto) = refl
 
-      pub items-read : (inner : Bool) (items : Items Text) → ReadsAlone (items_deeds ss inner items)
-      items-read inner (FirstItem i more) = both-read (item_deeds ss inner i) (more_items_deeds ss inner more) (item-reads inner i) (more_items-read inner more)
+      pub items-read : (items : Items Text) → ReadsAlone (items_deeds ss items)
+      items-read (FirstItem i more) = both-read (item_deeds ss i) (more_items_deeds ss more) (item-reads i) (more_items-read more)
 
-      more_items-read : (inner : Bool) (more : MoreItems Text) → ReadsAlone (more_items_deeds ss inner more)
-      more_items-read inner NoItems = refl
-      more_items-read inner (NextItem comma i more) = both-read (item_deeds ss inner i) (more_items_deeds ss inner more) (item-reads inner i) (more_items-read inner more)
+      more_items-read : (more : MoreItems Text) → ReadsAlone (more_items_deeds ss more)
+      more_items-read NoItems = refl
+      more_items-read (NextItem comma i more) = both-read (item_deeds ss i) (more_items_deeds ss more) (item-reads i) (more_items-read more)
 
-      pub exprs-read : (inner : Bool) (es : Exprs Text) → ReadsAlone (exprs_deeds ss inner es)
-      exprs-read inner (FirstExpr e more) = both-read (expr_deeds ss inner e) (more_exprs_deeds ss inner more) (expr-reads inner e) (more_exprs-read inner more)
+      pub exprs-read : (es : Exprs Text) → ReadsAlone (exprs_deeds ss es)
+      exprs-read (FirstExpr e more) = both-read (expr_deeds ss e) (more_exprs_deeds ss more) (expr-reads e) (more_exprs-read more)
 
-      more_exprs-read : (inner : Bool) (more : MoreExprs Text) → ReadsAlone (more_exprs_deeds ss inner more)
-      more_exprs-read inner NoExprs = refl
-      more_exprs-read inner (NextExpr comma e more) = both-read (expr_deeds ss inner e) (more_exprs_deeds ss inner more) (expr-reads inner e) (more_exprs-read inner more)
+      more_exprs-read : (more : MoreExprs Text) → ReadsAlone (more_exprs_deeds ss more)
+      more_exprs-read NoExprs = refl
+      more_exprs-read (NextExpr comma e more) = both-read (expr_deeds ss e) (more_exprs_deeds ss more) (expr-reads e) (more_exprs-read more)
 
     -- ---- declarations
-    all-read : (inner : Bool) (es : List (ExprTree Text)) → ReadsAlone (all_deeds ss inner es)
-    all-read inner [] = refl
-    all-read inner (e ∷ es) = both-read (expr_deeds ss inner e) (all_deeds ss inner es) (expr-reads inner e) (all-read inner es)
+    all-read : (es : List (ExprTree Text)) → ReadsAlone (all_deeds ss es)
+    all-read [] = refl
+    all-read (e ∷ es) = both-read (expr_deeds ss e) (all_deeds ss es) (expr-reads e) (all-read es)
 
     start-reads : (s : StartTree Text) → ReadsAlone (start_deeds ss s)
-    start-reads (StartExpr e) = expr-reads true e
-    start-reads (StartTuple from es upto) = all-read true (parts es)
+    start-reads (StartExpr e) = expr-reads e
+    start-reads (StartTuple from es upto) = all-read (parts es)
 
     map-reads : (m : MapTree Text) → ReadsAlone (map_deeds ss m)
-    map-reads (BlockMap m) = item-reads true m.box
+    map-reads (BlockMap m) = item-reads m.box
     map-reads (CyclicMap m) = start-reads m.start
     map-reads (BlockCyclicMap m) = both-read (start_deeds ss m.start) (start_deeds ss m.size) (start-reads m.start) (start-reads m.size)
 
@@ -179,11 +174,11 @@ module _ (loop : ForallScope) where
     type-reads (Some (ScalarType at k)) = refl
     type-reads (Some (SyncType at kind_at k)) = refl
     type-reads (Some (DomainType d)) = mapped-reads d.mapped
-    type-reads (Some (ArrayType a)) = items-read false a.over
+    type-reads (Some (ArrayType a)) = items-read a.over
 
     init-reads : (i : InitTree Text) → ReadsAlone (init_deeds ss i)
-    init-reads (ItemInit item mapped) = both-read (item_deeds ss false item) (mapped_deeds ss mapped) (item-reads false item) (mapped-reads mapped)
-    init-reads (CreateInit c) = items-read false c.items
+    init-reads (ItemInit item mapped) = both-read (item_deeds ss item) (mapped_deeds ss mapped) (item-reads item) (mapped-reads mapped)
+    init-reads (CreateInit c) = items-read c.items
 
     initial-reads : (i : Option (InitialTree Text)) → ReadsAlone (initial_deeds ss i)
     initial-reads None = refl
@@ -193,14 +188,15 @@ module _ (loop : ForallScope) where
     declaration-reads d =
         let type = written_type d.typed in
         let held = held_if (is_apart ss type d.initial) (first_of_declaration d) ADeclaration in
-        both-read (held ++ type_deeds ss type) (initial_deeds ss d.initial)
-        (both-read held (type_deeds ss type) (held-reads (is_apart ss type d.initial) (first_of_declaration d) ADeclaration) (type-reads type)) (initial-reads d.initial)
+        both-read (type_deeds ss type ++ initial_deeds ss d.initial) held
+        (both-read (type_deeds ss type) (initial_deeds ss d.initial) (type-reads type) (initial-reads d.initial))
+        (held-reads (is_apart ss type d.initial) (first_of_declaration d) ADeclaration)
 
     -- ---- calls on cells
     call_argument-reads : (call : CallTree Text) → ReadsAlone (call_argument_deeds ss call)
     call_argument-reads (ReadCall at w from upto) = refl
     call_argument-reads (ResetCall at from upto) = refl
-    call_argument-reads (WriteCall at w from e upto) = expr-reads false e
+    call_argument-reads (WriteCall at w from e upto) = expr-reads e
 
     pub call-reads : (x : Placed Text) (call : CallTree Text) → ReadsAlone (call_deeds ss x call)
     call-reads x call =

@@ -1,6 +1,6 @@
 -- What breaks no rule stands where it may. In a forall's turn C9 forbids prints and loops that make turns or tasks;
 -- outside it is asked that nothing needs what doesn't run yet, so that there are no tasks.
-use Rattle.std.proofs.Common.{◌≡◌, false, List, [], ◌∷◌, ◌++◌, refl, sym, ap, ◌∙◌, append_assoc}
+use Rattle.std.proofs.Common.{◌≡◌, List, [], ◌∷◌, ◌++◌, refl, sym, ap, ◌∙◌, append_assoc}
 use Rattle.dpl_syntax.specs.declared.refusal.Breach.{Breach}
 use Rattle.dpl_language.specs.Tree.{StmtTree, Nothing, Declare, Assigned, Call, Write, Block, If, While, For, Forall, Coforall, On, Body, WordBody, BlockBody, Stmts, NoStmts, Then, Else, NoElse, ElseDo}
 use Rattle.dpl_language.specs.Names.{Text}
@@ -9,9 +9,9 @@ use Rattle.dpl_rules.specs.Types.{Origin}
 use Rattle.dpl_rules.specs.Sights.{Scopes, Sight, enter, inside}
 use Rattle.dpl_rules.specs.Assignments.{condition_breaches}
 use Rattle.dpl_rules.specs.Loops.{ForWord, ForallWord, header_breaches, with_breaches, in_loop, behind}
-use Rattle.dpl_rules.specs.Deeds.{Deed, expr_deeds, item_deeds}
+use Rattle.dpl_rules.specs.Deeds.{Deed, expr_deeds, item_deeds, each}
 use Rattle.dpl_rules.specs.Doings.{stmt_deeds, body_deeds, stmts_deeds, else_deeds}
-use Rattle.dpl_rules.specs.Bodies.{ForallScope, forall_scope, written_arrays, each, deed_breaches, forall_breaches}
+use Rattle.dpl_rules.specs.Bodies.{ForallScope, forall_scope, written_arrays, deed_breaches, forall_breaches}
 use Rattle.dpl_rules.specs.Breaches.{in_forall, stmt_breaches, body_breaches, stmts_breaches, else_breaches}
 use Rattle.dpl_rules.proofs.Admission.{first_empty, second_empty}
 use Rattle.dpl_standing.specs.Standing.{Outside, InTurn, MayStand, BodyMayStand, AllMayStand, ElseMayStand}
@@ -44,16 +44,16 @@ module _ (loop : ForallScope) (written : List Origin) where
     turn-stands ss (Write t) m = absurd cc
     turn-stands ss (Block from ts upto) m = turn_stmts-stand (enter ss) ts m
     turn-stands ss (If at e first second) m =
-        let tested = expr_deeds ss false e in
+        let tested = expr_deeds ss e in
         let first_deeds = body_deeds (enter ss) first in
         let second_deeds = else_deeds (enter ss) second in (
           turn_body-stands (enter ss) first (second_done tested first_deeds (first_done (tested ++ first_deeds) second_deeds m)),
           turn_else-stands (enter ss) second (second_done (tested ++ first_deeds) second_deeds m),
         )
-    turn-stands ss (While at e body) m = turn_body-stands (enter ss) body (second_done (expr_deeds ss false e) (body_deeds (enter ss) body) m)
+    turn-stands ss (While at e body) m = turn_body-stands (enter ss) body (second_done (expr_deeds ss e) (body_deeds (enter ss) body) m)
     turn-stands ss (For at xs word item body) m =
         let inner = in_loop ss ForWord xs item in
-        turn_body-stands inner body (second_done (item_deeds ss false item) (body_deeds inner body) m)
+        turn_body-stands inner body (second_done (item_deeds ss item) (body_deeds inner body) m)
     turn-stands ss (Forall at xs word item intents body) m = absurd cc
     turn-stands ss (Coforall at xs word item intents body) m = absurd cc
     turn-stands ss (On at e body) m = absurd cc

@@ -35,12 +35,13 @@ fn found(rt: &impl Abort, alloc: Global, scopes: &Scopes<'_>, name: &str) -> Str
     } else {
         ""
     };
-    let shown = match (scopes.lookup(name.as_bytes()), scopes.slot(name.as_bytes())) {
-        (Some(declared), Some(slot)) => {
+    let shown = match scopes.lookup(name.as_bytes()) {
+        Some(declared) => {
             let depth = declared.origin.depth;
+            let slot = declared.slot;
             format!(in alloc; " {depth}/{slot}{here}")
         }
-        _ => format!(in alloc; " -{here}"),
+        None => format!(in alloc; " -{here}"),
     };
     shown.expect(rt, "memory")
 }

@@ -1,26 +1,18 @@
--- A name without a slot isn't in sight; what stands for a name is its declaration's variable.
+-- What stands for a name is its declaration's variable.
 -- A variable of a kind stands as its leaf does.
-use Rattle.std.proofs.Common.{◌≡◌, ℕ, true, false, Option, Some, None, is_some, refl, sym, ap, ◌∙◌}
+use Rattle.std.proofs.Common.{◌≡◌, ℕ, Some, refl, sym, ap, ◌∙◌}
 use Rattle.std.specs.Prelude.{◌&&◌}
 use Rattle.dpl_syntax.specs.declared.place.Place.{Place}
 use Rattle.dpl_language.specs.Names.{Text}
 use Rattle.dpl_language.specs.Tree.{Placed, Named}
-use Rattle.dpl_rules.specs.Sights.{Declared, Scopes, lookup}
+use Rattle.dpl_rules.specs.Sights.{Scopes}
 use Rattle.dpl_scopes.specs.Slots.{slot_in}
-use Rattle.dpl_scopes.proofs.Slots.{slot_in-lookup}
 use Rattle.dpl_lowered.specs.Known.{may_be_array}
 use Rattle.dpl_lowered.specs.Shapes.{placed}
 use Rattle.dpl_lowered.specs.LoweredExpressions.{Times, Once, EachTurn, each_turn}
 use Rattle.dpl_memory.specs.Memory.{VariableKind, PlainKind, DomainKind, TupleKind, CellKind, ArrayKind, variable, known_kind, known_variable}
 use Rattle.dpl_typed.specs.Leaves.{kind_in, leaf_by, leaf_in, leaf_view}
 use Rattle.dpl_typed.specs.Lowered.{leaves_of}
-
-undeclared : (d : Option Declared) → is_some d ≡ false → d ≡ None
-undeclared None e = refl
-undeclared (Some d) e = absurd (let f : true ≡ false = e in cc)
-
-pub unsighted : (scopes : Scopes) (x : Text) → slot_in scopes x ≡ None → lookup scopes x ≡ None
-unsighted scopes x e = undeclared (lookup scopes x) (sym (slot_in-lookup scopes x) ∙ ap is_some e)
 
 leaf_view-placed : (m : Times) (at : Place) (k : VariableKind) (slot : ℕ) → leaf_view m at k slot ≡ Named (placed (each_turn m && may_be_array (known_kind k)) (record { at = at; name = variable k slot }))
 leaf_view-placed Once at (PlainKind k) slot = refl

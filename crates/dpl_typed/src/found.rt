@@ -1,8 +1,7 @@
 // What was found of an expression, if the rules give it a type.
 
 ghost use Rattle.std.specs.Prelude.{◌≡◌};
-ghost use Rattle.dpl_rules.specs.Types.{has};
-ghost use Rattle.dpl_rules.specs.Deeds.{is_promoted as is_promoted_by};
+ghost use Rattle.dpl_rules.specs.Types.{has, is_promoted as is_promoted_by};
 ghost use Rattle.dpl_scopes.specs.Types.{of_type};
 ghost use Rattle.dpl_typed.specs.Typed.{types_of};
 

@@ -1,7 +1,8 @@
 use Rattle.std.proofs.Common.{◌≡◌, map, drop}
+use Rattle.dpl_rules.specs.Deeds.{each}
 use Rattle.dpl_rules.specs.Breaches.{least_from}
 use Rattle.dpl_deeds.specs.View.{deed_view}
-use Rattle.dpl_rules.specs.Bodies.{each, deed_breaches as deed_breaches_of}
+use Rattle.dpl_rules.specs.Bodies.{deed_breaches as deed_breaches_of}
 use Rattle.dpl_bodies.specs.View.{scope_view}
 use Rattle.dpl_bodies.proofs.forall.each_breaches.Given as goal
 

@@ -18,7 +18,7 @@ use Rattle.dpl_typed.specs.Lowered.{leaves_of}
 use Rattle.dpl_typed.proofs.Standing.{if_ok, on_any}
 use Rattle.dpl_checker.specs.Walks.{sight_in, WalksStmt, WalksInner, of_variables}
 use Rattle.dpl_checker.specs.Makes.{MakesStmt, MakesStmts, MakesInner}
-use Rattle.dpl_checker.proofs.Walking.{while_walks, if_walks, on_walks, stmts_left, body_left, for_walks, forall_walks, coforall_walks, turns_at, still_begun, still_then, still_step, still_ended}
+use Rattle.dpl_checker.proofs.Walking.{while_walks, if_walks, on_walks, stmts_left, body_left, for_walks, forall_walks, coforall_walks, turns_at, passes_begun, adds_begun, passes_then, passes_step, adds_step, still_ended}
 use Rattle.dpl_checker.proofs.Made.{untold, untold_before, body_made_at, else_made_at, while-made, if-made, for-made, forall-made, block-made, block_stmt-made, StillMakes, still_made_first, still_made_at, still_made_all}
 use Rattle.dpl_checker.proofs.statement.+statement.Goals as goal
 
@@ -93,10 +93,10 @@ for_turns-returns-clause-makes t c = λ none plain.
 pub forall_turns-returns-clause-walks : goal.forall_turns-returns-clause-walks
 forall_turns-returns-clause-walks t c =
     let turns = c.args.turns.now in
-    let counted : c.len-start.result ≡ length c.with_deeds.new.deeds.items = search rules in
+    let counted : c.len-start.result ≡ length c.open_forall.new.walk.deeds.items = search rules in
     forall_walks turns.at (variables_view turns.variables) turns.within (item_view turns.over) turns.with (body_view turns.body) c.args.around
-    c.depth.result c.len-start.result c.args.walk.now c.held.new.deeds c.open_shared.new.walk c.with_deeds.new.deeds c.body.new.walk c.leave.new.self c.forall_breaches.new.first
-    c.depth.ensures c.in-Ok-held.ensures c.in-Ok-open_shared.ensures.walks c.in-Ok-with_deeds.ensures counted c.in-Ok-body.ensures.walks c.leave.ensures
+    c.depth.result c.len-start.result c.args.walk.now c.open_forall.new.walk c.body.new.walk c.leave.new.self c.forall_breaches.new.first
+    c.depth.ensures c.in-Ok-open_forall.ensures.walks counted c.in-Ok-body.ensures.walks c.leave.ensures
     (c.in-Ok-forall_breaches.ensures.ok ∙ search rules)
 
 pub forall_turns-returns-clause-makes : goal.forall_turns-returns-clause-makes
@@ -108,12 +108,12 @@ forall_turns-returns-clause-makes t c = λ none plain.
     let body = body_view turns.body in
     let does = forall_breaches (turns_at c.depth.result xs turns.with) (map deed_view c.behind.result.now) in
     let ended = untold c.body.new.walk.first c.forall_breaches.new.first does c.in-Ok-forall_breaches.ensures.ok none in
-    let before = untold_before (record c.open_shared.new.walk { deeds = c.with_deeds.new.deeds }) c.body.new.walk c.in-Ok-body.ensures.walks ended in
-    let opened = c.in-Ok-open_shared.ensures.makes before plain.1 in
-    forall-made ss turns.at turns.within xs item body c.in-Ok.at c.in-Ok-open_shared.opened c.in-Ok-body.body c.forall_step.result (c.in-Ok.ensures plain.0)
+    let before = untold_before c.open_forall.new.walk c.body.new.walk c.in-Ok-body.ensures.walks ended in
+    let opened = c.in-Ok-open_forall.ensures.makes before plain.1 in
+    forall-made ss turns.at turns.within xs item body c.in-Ok.at c.in-Ok-open_forall.opened c.in-Ok-body.body c.forall_step.result (c.in-Ok.ensures plain.0)
     (optional with_view turns.with) c.in-Ok-changed.changed.now.reduced.now opened
-    (ap (map intent_view) c.in-Ok-changed.ensures ∙ c.in-Ok-open_shared.ensures.reduced before plain.1.known)
-    (body_made_at (of_variables ss ForallWord xs item) c.open_shared.new.walk.scopes body c.body.new.walk.first c.in-Ok-body.body.now c.in-Ok-open_shared.ensures.walks.scopes c.in-Ok-body.ensures.makes ended plain.2)
+    (ap (map intent_view) c.in-Ok-changed.ensures ∙ c.in-Ok-open_forall.ensures.reduced before plain.1.known)
+    (body_made_at (of_variables ss ForallWord xs item) c.open_forall.new.walk.scopes body c.body.new.walk.first c.in-Ok-body.body.now c.in-Ok-open_forall.ensures.walks.scopes c.in-Ok-body.ensures.makes ended plain.2)
     (c.forall_step.ensures opened.fits)
 
 pub coforall_tasks-returns : goal.coforall_tasks-returns
@@ -168,7 +168,7 @@ stmts-loop-next-init t c =
     let walk = c.args.walk.now in
     let all = stmts_of c.args.stmts.now in
     let empty : c.new-steps.result.items ≡ [] = search rules in
-    (still_begun c.args.around walk all, subst (StillMakes walk.scopes all walk.first walk.scopes all) (sym empty) (still_made_first walk.first walk.scopes all))
+    ((passes_begun c.args.around walk all, adds_begun walk all), subst (StillMakes walk.scopes all walk.first walk.scopes all) (sym empty) (still_made_first walk.first walk.scopes all))
 
 pub stmts-loop-next-preserved : goal.stmts-loop-next-preserved
 stmts-loop-next-preserved t c =
@@ -181,8 +181,11 @@ stmts-loop-next-preserved t c =
     let now = c.stmt.new.walk in
     let left = stmts_of (drop (at.next-index + 1) xs) in
     let walks = c.in-Ok.ensures.walks in (
-      still_then around now at.walk walk left (stmts_of (drop at.next-index xs)) all
-          (still_step around xs at.next-index x at.walk now c.loop-next-test.true c.next-item.is walks) at.invariant.0,
+      (
+        passes_then around now at.walk walk left (stmts_of (drop at.next-index xs)) all
+            (passes_step around xs at.next-index x at.walk now c.loop-next-test.true c.next-item.is walks) at.invariant.0.0,
+        adds_step around xs at.next-index x at.walk now c.loop-next-test.true c.next-item.is walks ∙ at.invariant.0.1,
+      ),
       subst (StillMakes walk.scopes all now.first now.scopes left) (sym c.in-Ok-push.ensures.items)
           (still_made_at walk.scopes all xs at.next-index x at.walk.first now.first (stmt_breaches (sight_in at.walk.scopes around) (stmt_view x)) at.walk.scopes now.scopes c.in-Ok.step at.steps.items
           c.loop-next-test.true c.next-item.is walks.told walks.scopes c.in-Ok.ensures.makes at.invariant.1),

@@ -16,6 +16,11 @@ use Rattle.dpl_declarations.proofs.names.name.Goals as goal
 abbrev NodeAs : Scopes → DeclareTree Text → Option Breach → Found → Option (TypeTree Text) → Type 0
 NodeAs ss d new f y = new ≡ None → IsPlainAs ss d y → IsFoundAs ss d y f
 
+pub returns-in-None-clause-node : goal.returns-in-None-clause-node
+returns-in-None-clause-node c =
+    let type = ap (λ w. type_of (optional typed_view w)) c.in-None.is in
+    if_ok c.untyped_name.result (λ f h. subst (NodeAs c.args.scopes.now (declare_view c.args.written.now) c.untyped_name.new.first f) (sym type) h) c.untyped_name.ensures.node
+
 pub returns-in-Scalar-clause-node : goal.returns-in-Scalar-clause-node
 returns-in-Scalar-clause-node c =
     let type = ap (λ w. type_of (optional typed_view w)) c.in-Some.is ∙ ap (λ y. Some (type_view y)) c.in-Scalar.is in

@@ -1,5 +1,6 @@
 -- Each loop goes part by part, and where the parts of a form stand for trees, the form stands for the tree of the same form.
-use Rattle.std.proofs.Common.{◌≡◌, ◌+◌, ◌∙◌, ◌∷◌, ◌++◌, [], Option, drop, map, sym, ap, subst}
+use Rattle.std.proofs.Common.{rules, ◌≡◌, ◌+◌, ◌∙◌, ◌∷◌, ◌++◌, [], Option, Some, if◌then◌else◌, length, drop, map, refl, sym, ap, subst}
+use Rattle.std.proofs.lemmas.List.{length-map}
 use Rattle.dpl_syntax.proofs.Walks.{drop-at, drop-end}
 use Rattle.dpl_language.specs.Names.{Text}
 use Rattle.dpl_language.specs.Phrases.{Base, base_of}
@@ -10,6 +11,10 @@ use Rattle.dpl_tree.specs.declared.expression.Contains.{out-Contains}
 use Rattle.dpl_tree.specs.declared.expression.Items.{out-Items}
 use Rattle.dpl_tree.specs.View.{expr_view, item_view, items_view, exprs_view, stride_view, links_of, posts_of, post_view, method_view, more_items_of, more_exprs_of}
 use Rattle.dpl_tree.proofs.Fields.{chain_view_fields, expr_view_postfixed, items_view_fields, method_view_contains}
+use Rattle.dpl_rules.specs.Types.{has, is_promoted}
+use Rattle.dpl_rules.specs.Breaches.{least_from}
+use Rattle.dpl_rules.specs.Deeds.{expr_deeds, links_deeds, inner_reductions}
+use Rattle.dpl_rules.specs.Expressions.{type_of, chain_type, expr_breaches, chain_breaches}
 use Rattle.dpl_rules.specs.Sights.{Scopes}
 use Rattle.dpl_lowered.specs.Shapes.{as_items}
 use Rattle.dpl_lowered.specs.LoweredExpressions.{Times, Once}
@@ -19,12 +24,17 @@ use Rattle.dpl_typed.specs.Leaves.{leaf_in, IsFound}
 use Rattle.dpl_typed.specs.Lowered.{leaves_of, item_leaves, items_leaves, exprs_leaves}
 use Rattle.dpl_typed.specs.Typed.{types_of, part_view}
 use Rattle.dpl_typed.specs.Stands.{StandsFor, StandsForItem, AreItems, AreArguments}
+use Rattle.dpl_typed.specs.Told.{Tells}
 use Rattle.dpl_typed.specs.Where.{WhereSimple, WhereSimpleItem, WhereSimplePost, WhereSimpleMethod, WhereSimpleItems}
 use Rattle.dpl_typed.proofs.Standing.{if_ok, if_both, stands-item, stands-expr}
 use Rattle.dpl_nodes.specs.Typed.{dotted}
+use Rattle.dpl_deeds.specs.View.{deed_view}
+use Rattle.dpl_deeds.proofs.Steps.{added_then}
+use Rattle.dpl_elaborator.specs.Inside.{between, Reaches, ReachesSoFar}
 use Rattle.dpl_elaborator.specs.Built.{StandsAt, method_leaves, behind}
 use Rattle.dpl_elaborator.specs.SoFar.{IsChainSoFar, ArePostsSoFar, AreItemsSoFar, AreExprsSoFar, AreItemsBehind}
-use Rattle.dpl_elaborator.proofs.Steps.{links_step, posts_step, items_step, exprs_step}
+use Rattle.dpl_elaborator.proofs.Steps.{links_step, posts_step, items_step, exprs_step, links_done, posts_done, items_done, exprs_done}
+use Rattle.dpl_elaborator.proofs.Promoted.{reaches-first, reaches-next, reaches-last, chain-told}
 use Rattle.dpl_elaborator.proofs.Chains.{chain-step, chain-whole}
 use Rattle.dpl_elaborator.proofs.Bases.{stands-at, posts-step, posts-whole}
 use Rattle.dpl_elaborator.proofs.Behind.{square-made, round-made}
@@ -56,30 +66,23 @@ pub expr-returns-in-Domain-clause-node : goal.expr-returns-in-Domain-clause-node
 expr-returns-in-Domain-clause-node t c =
     if_ok c.domain.result (λ r h. subst (NodeOf c.args.scopes.now r) (sym (ap expr_view c.in-Domain.is)) (λ s n. h n.0 s n.1)) c.domain.ensures.node
 
-pub expr-returns-in-Ok-clause-node : goal.expr-returns-in-Ok-clause-node
-expr-returns-in-Ok-clause-node t c =
-    let ss = c.args.scopes.now in
-    let e = expr_view c.in-Prefixed.operand.now in
-    if_ok c.prefix.result
-    (λ r h. subst (NodeOf ss r) (sym (ap expr_view c.in-Prefixed.is)) (λ s n. h (λ m. leaves_of ss m e) (c.in-Ok.ensures.node s n.1))) c.prefix.ensures.node
-
 pub expr-returns-in-Ok-expr-clause-node : goal.expr-returns-in-Ok-expr-clause-node
 expr-returns-in-Ok-expr-clause-node t c =
     let ss = c.args.scopes.now in
-    let e = expr_view c.in-Reduced.reduced.now.operand.now in
-    if_ok c.reduction.result
-    (λ r h. subst (NodeOf ss r) (sym (ap expr_view c.in-Reduced.is)) (λ s n. h (λ m. leaves_of ss m e) (c.in-Ok-expr.ensures.node s n.2) n.1)) c.reduction.ensures.node
+    let e = expr_view c.in-Prefixed.operand.now in
+    if_ok c.prefix.result
+    (λ r h. subst (NodeOf ss r) (sym (ap expr_view c.in-Prefixed.is)) (λ s n. h (λ m. leaves_of ss m e) (c.in-Ok-expr.ensures.node s n.1))) c.prefix.ensures.node
 
 pub expr-returns-in-Ok-expr-2-clause-node : goal.expr-returns-in-Ok-expr-2-clause-node
 expr-returns-in-Ok-expr-2-clause-node t c =
     let ss = c.args.scopes.now in
-    let v = out-Chain c.in-Chain.chain.now in
-    let e = expr_view v.first.now in
-    let ls = links_of v.links.now in
-    if_ok c.links.result
-    (λ r h. subst (NodeOf ss r) (sym (ap expr_view c.in-Chain.is ∙ chain_view_fields c.in-Chain.chain.now))
-    (λ s n. chain-whole ss r e ls s.2 (h (λ m. leaves_of ss m e) (c.in-Ok-expr-2.ensures.node s.0 n.1) s.1 n.2)))
-    c.links.ensures.node
+    let e = expr_view c.in-Reduced.reduced.now.operand.now in
+    if_ok c.reduction.result
+    (λ r h. subst (NodeOf ss r) (sym (ap expr_view c.in-Reduced.is)) (λ s n. h (λ m. leaves_of ss m e) (c.in-Ok-expr-2.ensures.node s n.2) n.1)) c.reduction.ensures.node
+
+pub expr-returns-in-Chain-clause-node : goal.expr-returns-in-Chain-clause-node
+expr-returns-in-Chain-clause-node t c =
+    if_ok c.chain.result (λ r h. subst (NodeOf c.args.scopes.now r) (sym (ap expr_view c.in-Chain.is)) h) c.chain.ensures.node
 
 pub expr-returns-in-Ok-base-clause-node : goal.expr-returns-in-Ok-base-clause-node
 expr-returns-in-Ok-base-clause-node t c =
@@ -92,6 +95,18 @@ expr-returns-in-Ok-base-clause-node t c =
     (λ s n. posts-whole ss (IsFound ss) r e ps s.1 s.2
     (h (λ m. leaves_of ss m e) (base_of (renamed_expr (leaf_in ss) e)) (c.in-Ok-base.ensures.node s.0 n.1) (stands-at ss (IsFound ss) e s.0) s.2 s.1 n.2)))
     c.posts.ensures.node
+
+-- a name in brackets
+pub expr_before-returns-in-One-clause-node : goal.expr_before-returns-in-One-clause-node
+expr_before-returns-in-One-clause-node t c =
+    let ss = c.args.scopes.now in
+    let i = item_view c.in-Grouped.item.now in
+    let e = expr_view c.in-One.inner.now in
+    if_ok c.expr_before.result
+    (λ r h.
+    let as_item : NodeOfItem ss r i = subst (NodeOfItem ss r) (sym (ap item_view c.in-One.is)) (λ s n. stands-item r (λ m. leaves_of ss m e) (h s n)) in
+    subst (NodeOf ss r) (sym (ap expr_view c.in-Grouped.is)) (λ s n. stands-expr r (λ m. item_leaves ss m i) (as_item s n.1)))
+    c.expr_before.ensures.node
 
 pub item-returns-in-One-clause-node : goal.item-returns-in-One-clause-node
 item-returns-in-One-clause-node t c =
@@ -111,6 +126,66 @@ domain-returns-clause-node t c =
     c.literal.ensures.node
 
 -- ---- chains
+pub chain-returns-clause-told : goal.chain-returns-clause-told
+chain-returns-clause-told t c =
+    let ss = c.args.scopes.now in
+    let v = out-Chain c.args.chain.now in
+    let e = expr_view v.first.now in
+    let ls = links_of v.links.now in
+    let linked = c.in-Ok-links.linked in
+    let typed = c.in-Ok.ensures.told.0 in
+    let before = map deed_view c.args.deeds.now.items in
+    let after = map deed_view c.links.new.deeds.items in
+    let counted : c.len-start.result ≡ length c.args.deeds.now.items = search rules in
+    let reaches : Reaches ss (type_of ss e) ls (before ++ expr_deeds ss e) after linked.promoted =
+    subst (λ ds. Reaches ss (type_of ss e) ls ds after linked.promoted) c.in-Ok.ensures.deeds
+    (subst (λ t. Reaches ss t ls (map deed_view c.expr.new.deeds.items) after linked.promoted) typed c.in-Ok-links.ensures.promoted) in
+    let told = c.in-Ok-links.ensures.told in
+    let inner : c.tell_inner.new.first ≡ least_from c.links.new.first (inner_reductions (between c.len-start.result linked.promoted after)) =
+    subst (λ ds. c.tell_inner.new.first ≡ least_from c.links.new.first (inner_reductions (between c.len-start.result linked.promoted (map deed_view ds)))) c.as_slice.ensures.value
+    c.tell_inner.ensures in
+    subst (λ x. Tells (type_of ss x) (expr_breaches ss x) linked.found c.args.first.now c.tell_inner.new.first) (sym (chain_view_fields c.args.chain.now)) (
+      told.0 ∙ ap (λ t. chain_type ss t ls) typed,
+      chain-told ss e ls before after c.len-start.result linked.promoted c.args.first.now c.expr.new.first c.links.new.first c.tell_inner.new.first
+          (counted ∙ sym (length-map c.args.deeds.now.items deed_view)) reaches c.in-Ok.ensures.told.1
+          (told.1 ∙ ap (λ t. least_from c.expr.new.first (chain_breaches ss t ls)) typed) inner,
+    )
+
+pub chain-returns-clause-node : goal.chain-returns-clause-node
+chain-returns-clause-node t c =
+    let ss = c.args.scopes.now in
+    let v = out-Chain c.args.chain.now in
+    let e = expr_view v.first.now in
+    let ls = links_of v.links.now in
+    let r = c.in-Ok-links.linked.found in
+    subst (NodeOf ss r) (sym (chain_view_fields c.args.chain.now))
+    (λ s n. chain-whole ss r e ls s.2 (c.in-Ok-links.ensures.node (λ m. leaves_of ss m e) (c.in-Ok.ensures.node s.0 n.1) s.1 n.2))
+
+pub chain-returns-clause-deeds : goal.chain-returns-clause-deeds
+chain-returns-clause-deeds t c =
+    let ss = c.args.scopes.now in
+    let v = out-Chain c.args.chain.now in
+    let before = map deed_view c.args.deeds.now.items in
+    c.in-Ok-links.ensures.deeds
+    ∙ added_then before (map deed_view c.expr.new.deeds.items) (expr_deeds ss (expr_view v.first.now)) (links_deeds ss (links_of v.links.now)) c.in-Ok.ensures.deeds
+    ∙ ap (λ x. before ++ expr_deeds ss x) (sym (chain_view_fields c.args.chain.now))
+
+pub links-loop-next-init : goal.links-loop-next-init
+links-loop-next-init t c =
+    let ss = c.args.scopes.now in
+    let all = links_of c.args.links.now in
+    (refl, refl, λ f h simple near. record { tree = f; stands = h; same = λ m. refl; simple = simple; near = near }, refl, reaches-first ss (types_of c.args.t) all (map deed_view c.args.deeds.now.items))
+
+pub links-returns-clause-promoted : goal.links-returns-clause-promoted
+links-returns-clause-promoted t c =
+    let ss = c.args.scopes.now in
+    let at = c.loop-next in
+    let xs = c.args.links.now in
+    let old = map deed_view c.args.deeds.now.items in
+    let now = map deed_view at.deeds.items in
+    reaches-last ss (types_of c.args.t) (links_of xs) old (types_of at.t) now at.promoted
+    (subst (λ l. ReachesSoFar ss (types_of c.args.t) (links_of xs) old (types_of at.t) (links_of l) now at.promoted) (drop-end xs at.next-index c.loop-next-test.false) at.invariant.4)
+
 pub link-returns-clause-node : goal.link-returns-clause-node
 link-returns-clause-node t c =
     let ss = c.args.scopes.now in
@@ -125,10 +200,21 @@ links-loop-next-preserved t c =
     let x = c.next-item.result in
     let next = c.in-Ok.more in
     let step = links_step scopes xs at.next-index x c.loop-next-test.true c.next-item.is (types_of at.t) (types_of next) at.first c.link.new.first c.in-Ok.ensures.told in
-    let so_far = subst (λ l. IsChainSoFar scopes c.args.t (links_of xs) at.t (links_of l)) (drop-at xs at.next-index x c.loop-next-test.true c.next-item.is) at.invariant.2 in (
+    let e = expr_view x.right.now in
+    let rest = links_of (drop (at.next-index + 1) xs) in
+    let old = map deed_view c.args.deeds.now.items in
+    let now = map deed_view at.deeds.items in
+    let after = map deed_view c.link.new.deeds.items in
+    let split = drop-at xs at.next-index x c.loop-next-test.true c.next-item.is in
+    let so_far = subst (λ l. IsChainSoFar scopes c.args.t (links_of xs) at.t (links_of l)) split at.invariant.2 in
+    let reaches = subst (λ l. ReachesSoFar scopes (types_of c.args.t) (links_of xs) old (types_of at.t) (links_of l) now at.promoted) split at.invariant.4 in
+    let counted : c.len.result ≡ length after = (let k : c.len.result ≡ length c.link.new.deeds.items = search rules in k) ∙ sym (length-map c.link.new.deeds.items deed_view) in (
       step.0 ∙ at.invariant.0,
       step.1 ∙ at.invariant.1,
-      chain-step scopes c.args.t (links_of xs) at.t next x.at x.op (expr_view x.right.now) (links_of (drop (at.next-index + 1) xs)) so_far c.in-Ok.ensures.node,
+      chain-step scopes c.args.t (links_of xs) at.t next x.at x.op e rest so_far c.in-Ok.ensures.node,
+      links_done scopes xs at.next-index x c.loop-next-test.true c.next-item.is now after c.in-Ok.ensures.deeds ∙ at.invariant.3,
+      reaches-next scopes (types_of c.args.t) (links_of xs) old (types_of at.t) x.at x.op e rest now at.promoted reaches (types_of next) after c.reached-promoted.result
+          c.in-Ok.ensures.told.0 c.in-Ok.ensures.deeds (c.reached-promoted.ensures ∙ ap (λ n. if has is_promoted (types_of next) then Some n else at.promoted) counted),
     )
 
 -- ---- what stands behind a base
@@ -144,6 +230,8 @@ posts-loop-next-preserved t c =
       step.0 ∙ at.invariant.0,
       step.1 ∙ at.invariant.1,
       posts-step scopes c.args.t (posts_of xs) at.t next (post_view x) (posts_of (drop (at.next-index + 1) xs)) so_far c.in-Ok.ensures.node,
+      posts_done scopes xs at.next-index x c.loop-next-test.true c.next-item.is (map deed_view at.deeds.items) (map deed_view c.post.new.deeds.items) c.in-Ok.ensures.deeds
+          ∙ at.invariant.3,
     )
 
 -- ---- further parts
@@ -160,6 +248,8 @@ more_items-loop-next-preserved t c =
       step.0 ∙ at.invariant.0,
       step.1 ∙ at.invariant.1,
       items-step scopes c.args.parts.items (more_items_of xs) at.parts.items x.comma (item_view x.item) (more_items_of (drop (at.next-index + 1) xs)) q so_far c.in_ok-item_part.ensures.node,
+      items_done scopes xs at.next-index x c.loop-next-test.true c.next-item.is (map deed_view at.deeds.items) (map deed_view c.item_part.new.deeds.items) c.in_ok-item_part.ensures.deeds
+          ∙ at.invariant.3,
     )
 
 pub more_items-returns-clause-node : goal.more_items-returns-clause-node
@@ -183,6 +273,8 @@ more_exprs-loop-next-preserved t c =
       step.0 ∙ at.invariant.0,
       step.1 ∙ at.invariant.1,
       exprs-step scopes c.args.parts.items (more_exprs_of xs) at.parts.items x.comma (expr_view x.expr.now) (more_exprs_of (drop (at.next-index + 1) xs)) q so_far c.in_ok-part.ensures.node,
+      exprs_done scopes xs at.next-index x c.loop-next-test.true c.next-item.is (map deed_view at.deeds.items) (map deed_view c.part.new.deeds.items) c.in_ok-part.ensures.deeds
+          ∙ at.invariant.3,
     )
 
 pub more_exprs-returns-clause-node : goal.more_exprs-returns-clause-node

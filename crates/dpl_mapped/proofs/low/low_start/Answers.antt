@@ -7,19 +7,19 @@ use Rattle.dpl_nodes.specs.Typed.{dotted}
 use Rattle.dpl_tree.specs.View.{expr_view, posts_of}
 use Rattle.dpl_typed.specs.Lowered.{leaves_of}
 use Rattle.dpl_typed.proofs.Standing.{if_ok, if_both, stands-argument}
-use Rattle.dpl_mapped.specs.Told.{standing, bound_word}
+use Rattle.dpl_mapped.specs.Told.{bound_word, front_standing}
 use Rattle.dpl_mapped.proofs.Lows.{domain-told, int-told, low-int, ended-int}
 use Rattle.dpl_mapped.proofs.low.low_start.Goals as goal
 
 pub returns-in-Ok-least-clause-told : goal.returns-in-Ok-least-clause-told
 returns-in-Ok-least-clause-told c =
-    domain-told c.args.scopes.now c.args.rank c.args.word (expr_view c.args.before.now) c.args.ends c.in-Some.domain c.in-Ok.of c.args.first.now c.front.new.first c.low_rank.new.first c.in-Ok.ensures.told
+    domain-told c.args.scopes.now c.args.rank c.args.word c.args.ends c.in-Some.domain c.in-Ok.of c.args.first.now c.front.new.first c.low_rank.new.first c.in-Ok.ensures.told
     c.in-Some.ensures.ranks c.low_rank.ensures
 
 pub returns-in-Ok-least-clause-node : goal.returns-in-Ok-least-clause-node
 returns-in-Ok-least-clause-node c = λ none at simple near.
     let ss = c.args.scopes.now in
-    let e = standing (expr_view c.args.before.now) (posts_of c.args.ends.behind.now) in
+    let e = front_standing c.args.ends in
     let low = c.args.ends.low in
     c.in-Ok-least.ensures at
     ∙ ap (λ v. StartExpr (dotted v (Plainly low.at (bound_word low.bound))))
@@ -28,16 +28,16 @@ returns-in-Ok-least-clause-node c = λ none at simple near.
 pub returns-in-Ok-word-clause-told : goal.returns-in-Ok-word-clause-told
 returns-in-Ok-word-clause-told c =
     if_ok c.int_start.result
-    (λ r h. int-told c.args.scopes.now c.args.rank c.args.word c.first_of.result (expr_view c.args.before.now) c.args.ends c.low_word-called.result c.in-Ok.of c.in-Ok-word.found c.args.first.now
+    (λ r h. int-told c.args.scopes.now c.args.rank c.args.word c.first_of.result c.args.ends c.low_word-called.result c.in-Ok.of c.in-Ok-word.found c.args.first.now
     c.front.new.first c.word.new.first c.int_start.new.first c.in-Ok.ensures.told c.in-None.ensures.ranks c.low_word-called.ensures c.in-Ok-word.ensures.told c.first_of.ensures h)
     c.int_start.ensures.told
 
 pub returns-in-Ok-word-clause-node : goal.returns-in-Ok-word-clause-node
 returns-in-Ok-word-clause-node c =
     let ss = c.args.scopes.now in
-    let base = expr_view c.args.before.now in
+    let base = expr_view c.args.ends.base.now in
     let ps = posts_of c.args.ends.behind.now in
-    let e = standing base ps in
+    let e = front_standing c.args.ends in
     let low = c.args.ends.low in
     let w = c.low_word-called.result in
     let found = c.in-Ok-word.found in

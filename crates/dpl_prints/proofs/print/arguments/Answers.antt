@@ -1,10 +1,13 @@
 -- The first argument, and those behind it.
-use Rattle.std.proofs.Common.{rules, ◌≡◌, [], ◌∷◌, sym, subst, ◌∙◌}
+use Rattle.std.proofs.Common.{rules, ◌≡◌, [], ◌∷◌, ◌++◌, map, sym, ap, subst, ◌∙◌}
 use Rattle.dpl_tree.specs.Statements.{argument_view}
-use Rattle.dpl_typed.proofs.Standing.{if_ok}
+use Rattle.dpl_rules.specs.Doings.{arguments_deeds}
+use Rattle.dpl_deeds.specs.View.{deed_view}
+use Rattle.dpl_typed.proofs.Standing.{if_ok, on_any}
 use Rattle.dpl_prints.specs.Plain.{ArePlainArguments}
 use Rattle.dpl_prints.specs.Told.{printed_told, arguments_in}
 use Rattle.dpl_prints.specs.Made.{AreArgumentsAs}
+use Rattle.dpl_prints.proofs.Doing.{argument-done}
 use Rattle.dpl_prints.proofs.Printing.{arguments_next, arguments-made}
 use Rattle.dpl_types.proofs.Unbroken.{unbroken}
 use Rattle.dpl_prints.proofs.print.arguments.Goals as goal
@@ -25,3 +28,14 @@ returns-clause-node c =
     (c.in-Ok-more_arguments.ensures.node none known more) in
     subst (λ rest. AreArgumentsAs ss (a ∷ rest) r.now) (sym same) (subst (AreArgumentsAs ss (a ∷ rest)) (sym is) made))
     c.list.ensures
+
+pub returns-clause-deeds : goal.returns-clause-deeds
+returns-clause-deeds c =
+    let ss = c.args.scopes.now in
+    let w = c.args.written.now in
+    let a = argument_view w.first in
+    let before = map deed_view c.args.deeds.now.items in
+    on_any c.list.result
+    (c.in-Ok-more_arguments.ensures.deeds
+    ∙ argument-done ss a (arguments_in w.others.now) before (map deed_view c.argument.new.deeds.items) c.in-Ok.ensures.deeds
+    ∙ ap (λ rest. before ++ arguments_deeds ss (a ∷ rest)) (sym (arguments_next w.others.now)))

@@ -15,10 +15,10 @@ returns-clause-checked c =
     let h = c.requires.walked in
     let words = c.in_ok-words.words.items in
     let same : c.args.program.now ≡ c.in-Ok.program.value = search rules in
-    let elaborated : IsElaborated t sets w.slots w.scopes w.steps.now words = record {
+    let elaborated : IsElaborated t sets w.slots w.scopes w.steps.items words = record {
       unrefused = is;
       allowed = program-allowed is.0 sets t is.1;
-      plan = planned t w.slots w.scopes w.steps.now (program-runs is.0 sets t is.1) h.steps h.slots h.scopes;
+      plan = planned t w.slots w.scopes w.steps.items (program-runs is.0 sets t is.1) h.steps h.slots h.scopes;
       given = c.in_ok-words.ensures;
     } in
-    subst (λ q. IsElaborated (program_view q) sets w.slots w.scopes w.steps.now words) same elaborated
+    subst (λ q. IsElaborated (program_view q) sets w.slots w.scopes w.steps.items words) same elaborated

@@ -34,7 +34,7 @@ returns-clause-runs g c =
     let text = is.unrefused.0 in
     let program = is.unrefused.1 in
     let unrefused = program-unrefused text sets t program in
-    let steps = p.steps.now in
+    let steps = p.steps.items in
     let f = c.in_ok-frame.frame in
     let limits = limits_of c.args.config.now in
     let start = start_of p.slots p.scopes sets in
@@ -47,7 +47,8 @@ returns-clause-runs g c =
     if_ok c.run.result
     (λ ended ran.
     let left = subst AreLeft (sym is.plan.behind) (tops-left t.stmts top (program-runs text sets t program) top-left) in
-    let from = ran is.plan.plain left in
+    let from = subst (λ ss. RanTo p.scopes (exec_all f.limits in_memory (steps_in Outside ss) f.memory no_deeds) ended.outcome ended.text.items) c.deref-2.ensures.value
+    (ran is.plan.plain left) in
     let there =
     subst (λ ts. RanTo p.scopes (exec_all limits in_memory ts (first_memory start) no_deeds) ended.outcome ended.text.items) read
     (subst (λ m. RanTo p.scopes (exec_all limits in_memory (steps_in Outside steps) m no_deeds) ended.outcome ended.text.items) same-memory

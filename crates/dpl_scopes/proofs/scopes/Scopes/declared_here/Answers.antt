@@ -9,7 +9,7 @@ pub returns-in-Some : goal.returns-in-Some
 returns-in-Some c =
     let marks = reverse c.self.inside.marks.items in
     let d = declared_view c.in-Some.declared in
-    let found = c.in-Some.ensures ∙ ap (λ ss. lookup ss c.args.name.now) (sym c.self.view_is) in
+    let found = c.in-Some.ensures.declared ∙ ap (λ ss. lookup ss c.args.name.now) (sym c.self.view_is) in
     ap (λ n. nat_eq n c.self.inside.depth) c.max.ensures
     ∙ ap (nat_eq (max d.origin.depth 1)) c.self.invariant.deep
     ∙ declared_here-found marks c.self.invariant.kept c.args.name.now d found

@@ -20,7 +20,7 @@ loop-entry-preserved-in-Some c =
     let kept = subst AreKept popped so_far.0 in
     let placed = subst (λ ms. ArePlaces now.places ms) popped so_far.1 in
     let written = (c.get_mut.follows.holds e.hidden).3 (ap is_some (sym c.in-Some.ensures.value)) in (
-      kept.2,
+      kept.3,
       ArePlaces-closed now.places (c.get_mut.follows.lender e.hidden) (reverse left) e kept placed written,
       sym (ap (λ ms. drop 1 (scopes_by ms)) popped ∙ drop-add (declared_view e.declared) (scopes_by (reverse left))) ∙ so_far.2,
       so_far.3,

@@ -1,8 +1,8 @@
 use Rattle.std.proofs.Common.{◌≡◌, map, drop}
 use Rattle.dpl_rules.specs.Breaches.{least_from}
 use Rattle.dpl_deeds.specs.View.{deed_view}
-use Rattle.dpl_rules.specs.Bodies.{inner_reductions as inner_reductions_of}
-use Rattle.dpl_bodies.proofs.outside.inner_reductions.Given as goal
+use Rattle.dpl_rules.specs.Deeds.{inner_reductions as inner_reductions_of}
+use Rattle.dpl_deeds.proofs.inner.inner_reductions.Given as goal
 
 -- what is left to tell from here is what was to tell at first
 abbrev pub invariant-loop-deed : goal.invariant-loop-deed
