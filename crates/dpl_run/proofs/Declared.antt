@@ -3,7 +3,7 @@
 use Rattle.std.proofs.Common.{true, false, [], ◌∷◌, Some, None}
 use Rattle.std.specs.Prelude.{bytes_eq, if◌then◌else◌}
 use Rattle.std.specs.Option.{option_or}
-use Rattle.dpl_language.specs.Tree.{StmtTree, Nothing, Declare, Assigned, Call, Write, Block, If, While, For, Forall, Coforall, On, Stmts, NoStmts, Then}
+use Rattle.dpl_language.specs.Tree.{StmtTree, Declare, Stmts, NoStmts, Then}
 use Rattle.dpl_language.specs.Names.{Text}
 use Rattle.dpl_rules.specs.Breaches.{top}
 use Rattle.dpl_rules.specs.Declarations.{declared_by}
@@ -21,18 +21,8 @@ add-left d [] is h = λ x. elim (bytes_eq x d.origin.name) as (λ b. IsLeft (opt
 add-left d (s ∷ ss) is h = λ x. elim (bytes_eq x d.origin.name) as (λ b. IsLeft (option_or (if b then Some d else find s x) (lookup ss x))) [ true ↦ is | false ↦ h x ]
 
 behind-left : (t : StmtTree Text) (ss : Scopes) → IsRunnableTop ss t → AreLeft ss → AreLeft (behind ss t)
-behind-left (Nothing at) ss r h = h
 behind-left (Declare d) ss r h = add-left (declared_by ss d) ss (r.kind, r.declared, r.kept) h
-behind-left (Assigned target sign item semicolon) ss r h = h
-behind-left (Call x dot call semicolon) ss r h = h
-behind-left (Write w) ss r h = h
-behind-left (Block from ts upto) ss r h = h
-behind-left (If at e first second) ss r h = h
-behind-left (While at e body) ss r h = h
-behind-left (For at xs word item body) ss r h = h
-behind-left (Forall at xs word item intents body) ss r h = h
-behind-left (Coforall at xs word item intents body) ss r h = h
-behind-left (On at e body) ss r h = h
+behind-left _ ss r h = h
 
 pub tops-left : (ts : Stmts Text) (ss : Scopes) → AreRunnableTops ss ts → AreLeft ss → AreLeft (behind_all ss ts)
 tops-left NoStmts ss r h = h

@@ -217,18 +217,8 @@ module _ (f : Turning) where
       declared-plain ss d (apart-held (deed_breaches loop_of f.written) (is_apart ss type d.initial) (first_of_declaration d) (λ e. absurd cc) own) h
 
   pub within-behind : (ss : Scopes) (t : StmtTree Text) → AreWithin depth_of ss → stmt_breaches (sight_by (Some f) ss) t ≡ [] → MayDoIn (Some f) (stmt_deeds ss t) → AreWithin depth_of (behind ss t)
-  within-behind ss (Nothing at) within h m = within
   within-behind ss (Declare d) within h m = within-add depth_of (declared_by ss d) ss within (no-array (declared_by ss d) depth_of (turn-declared ss d h m))
-  within-behind ss (Assigned target sign item semicolon) within h m = within
-  within-behind ss (Call x dot call semicolon) within h m = within
-  within-behind ss (Write w) within h m = within
-  within-behind ss (Block from ts upto) within h m = within
-  within-behind ss (If at e first second) within h m = within
-  within-behind ss (While at e body) within h m = within
-  within-behind ss (For at xs word item body) within h m = within
-  within-behind ss (Forall at xs word item intents body) within h m = within
-  within-behind ss (Coforall at xs word item intents body) within h m = within
-  within-behind ss (On at e body) within h m = within
+  within-behind ss _ within h m = within
 
   -- a whole array isn't written
   whole-first : (at : Place) (o : Option Declared) (op : Assign) → MayDoIn (Some f) (written at o op) → first_deed (written at o op) ≡ None
@@ -426,18 +416,8 @@ within-declared [] d depth within = within-add 1 d [] (weaker 0 1 (omega arith) 
 within-declared (s ∷ ss) d depth within = within-add (length (s ∷ ss)) d (s ∷ ss) within (λ a. le-leb d.origin.depth (length (s ∷ ss)) (omega (arith, depth)))
 
 within-after : (ss : Scopes) (t : StmtTree Text) → AreWithin (length ss) ss → AreWithin (length (behind ss t)) (behind ss t)
-within-after ss (Nothing at) within = within
 within-after ss (Declare d) within = within-declared ss (declared_by ss d) refl within
-within-after ss (Assigned target sign item semicolon) within = within
-within-after ss (Call x dot call semicolon) within = within
-within-after ss (Write w) within = within
-within-after ss (Block from ts upto) within = within
-within-after ss (If at e first second) within = within
-within-after ss (While at e body) within = within
-within-after ss (For at xs word item body) within = within
-within-after ss (Forall at xs word item intents body) within = within
-within-after ss (Coforall at xs word item intents body) within = within
-within-after ss (On at e body) within = within
+within-after ss _ within = within
 
 -- what is so of each forall outside of others, where it stands, is so of each of a program's
 abbrev pub IsLaw : (ForallIn → Type 0) → Type 0

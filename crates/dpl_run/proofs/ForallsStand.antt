@@ -100,18 +100,8 @@ module _ (start : Start) where
   seen-loop word xs item ss g seen = seen-variables (loop_type ss word xs item) xs (enter ss) ((resolving start).enter g) seen
 
   seen-behind : (t : StmtTree Text) (ss : Scopes) (g : Seen) → IsSeenAs ss g → IsSeenAs (behind ss t) (after (resolving start) (bound_stmt ss t) g)
-  seen-behind (Nothing at) ss g seen = seen
   seen-behind (Declare d) ss g seen = seen-add ss g (declared_by ss d) (form_by (type_of (bound_declare ss d).typed)) seen
-  seen-behind (Assigned target sign item semicolon) ss g seen = seen
-  seen-behind (Call x dot call semicolon) ss g seen = seen
-  seen-behind (Write w) ss g seen = seen
-  seen-behind (Block from ts upto) ss g seen = seen
-  seen-behind (If at e first second) ss g seen = seen
-  seen-behind (While at e body) ss g seen = seen
-  seen-behind (For at xs word item body) ss g seen = seen
-  seen-behind (Forall at xs word item intents body) ss g seen = seen
-  seen-behind (Coforall at xs word item intents body) ss g seen = seen
-  seen-behind (On at e body) ss g seen = seen
+  seen-behind _ ss g seen = seen
 
 -- ---- among
 among-left : (f : ForallIn) (xs ys : List ForallIn) → IsAmong f xs → IsAmong f (xs ++ ys)

@@ -3,7 +3,7 @@
 use Rattle.std.proofs.Common.{◌≡◌, true, List, [], ◌∷◌, ◌++◌, Option, Some, None, refl, sym, ap, ◌∙◌, append_assoc}
 use Rattle.dpl_syntax.specs.declared.place.Place.{Place}
 use Rattle.dpl_syntax.specs.declared.refusal.Breach.{Breach}
-use Rattle.dpl_language.specs.Tree.{Op, ItemTree, VariablesTree, WithTree, StmtTree, Nothing, Declare, Assigned, Call, Write, Block, If, While, For, Forall, Coforall, On}
+use Rattle.dpl_language.specs.Tree.{Op, ItemTree, VariablesTree, WithTree, StmtTree, Declare}
 use Rattle.dpl_language.specs.Names.{Text}
 use Rattle.dpl_language.specs.Phrases.{intents_of}
 use Rattle.dpl_agreement.specs.Renamed.{renamed_intents}
@@ -105,33 +105,13 @@ module _ (P : Place → Type 0) (scopes : Scopes) where
 
   behind-around : (f : Option Turning) (t : StmtTree Text) → IsAround f scopes → IsAround f (behind scopes t)
   behind-around None t around = tt
-  behind-around (Some f) (Nothing at) around = around
   behind-around (Some f) (Declare d) around =
       record { names = around.names; told = around.told; inside = inside-add f.outer scopes (declared_by scopes d) refl around.inside }
-  behind-around (Some f) (Assigned target sign item semicolon) around = around
-  behind-around (Some f) (Call x dot call semicolon) around = around
-  behind-around (Some f) (Write w) around = around
-  behind-around (Some f) (Block from ts upto) around = around
-  behind-around (Some f) (If at e first second) around = around
-  behind-around (Some f) (While at e body) around = around
-  behind-around (Some f) (For at xs word item body) around = around
-  behind-around (Some f) (Forall at xs word item intents body) around = around
-  behind-around (Some f) (Coforall at xs word item intents body) around = around
-  behind-around (Some f) (On at e body) around = around
+  behind-around (Some f) _ around = around
 
   behind-variables : (f : Option Turning) (t : StmtTree Text) → AreVariables scopes → StmtSpelt P ⊥ t → UntaskedStmt t → stmt_breaches (sight_by f scopes) t ≡ [] → AreVariables (behind scopes t)
-  behind-variables f (Nothing at) names s c h = names
   behind-variables f (Declare d) names s c h = declaration-variables scopes P names d s c h
-  behind-variables f (Assigned target sign item semicolon) names s c h = names
-  behind-variables f (Call x dot call semicolon) names s c h = names
-  behind-variables f (Write w) names s c h = names
-  behind-variables f (Block from ts upto) names s c h = names
-  behind-variables f (If at e first second) names s c h = names
-  behind-variables f (While at e body) names s c h = names
-  behind-variables f (For at xs word item body) names s c h = names
-  behind-variables f (Forall at xs word item intents body) names s c h = names
-  behind-variables f (Coforall at xs word item intents body) names s c h = names
-  behind-variables f (On at e body) names s c h = names
+  behind-variables f _ names s c h = names
 
   pub behind-stands : (f : Option Turning) (t : StmtTree Text) → Stands f scopes → StmtSpelt P ⊥ t → UntaskedStmt t → stmt_breaches (sight_by f scopes) t ≡ [] → Stands f (behind scopes t)
   behind-stands f t at s c h = record { names = behind-variables f t at.names s c h; around = behind-around f t at.around }

@@ -76,32 +76,12 @@ mutual
 
 -- ---- BEHIND STATEMENTS all that is in sight is known
 pub stmt-open : (t : StmtTree Text) (ss : Scopes) (is : List (Bound × Op)) → IsRunnableStmt ss is t → AreOpen ss → AreOpen (behind ss t)
-stmt-open (Nothing at) ss is r h = h
 stmt-open (Declare d) ss is r h = declared-open ss d r.1 h
-stmt-open (Assigned target sign item semicolon) ss is r h = h
-stmt-open (Call x dot call semicolon) ss is r h = h
-stmt-open (Write w) ss is r h = h
-stmt-open (Block from ts upto) ss is r h = h
-stmt-open (If at e first second) ss is r h = h
-stmt-open (While at e body) ss is r h = h
-stmt-open (For at xs word item body) ss is r h = h
-stmt-open (Forall at xs word item intents body) ss is r h = h
-stmt-open (Coforall at xs word item intents body) ss is r h = h
-stmt-open (On at e body) ss is r h = h
+stmt-open _ ss is r h = h
 
 pub top-open : (t : StmtTree Text) (ss : Scopes) → IsRunnableTop ss t → AreOpen ss → AreOpen (behind ss t)
-top-open (Nothing at) ss r h = h
 top-open (Declare d) ss r h = declared-open ss d r h
-top-open (Assigned target sign item semicolon) ss r h = h
-top-open (Call x dot call semicolon) ss r h = h
-top-open (Write w) ss r h = h
-top-open (Block from ts upto) ss r h = h
-top-open (If at e first second) ss r h = h
-top-open (While at e body) ss r h = h
-top-open (For at xs word item body) ss r h = h
-top-open (Forall at xs word item intents body) ss r h = h
-top-open (Coforall at xs word item intents body) ss r h = h
-top-open (On at e body) ss r h = h
+top-open _ ss r h = h
 
 tops-open : (ts : Stmts Text) (ss : Scopes) → AreRunnableTops ss ts → AreOpen ss → AreOpen (behind_all ss ts)
 tops-open NoStmts ss r h = h

@@ -6,7 +6,7 @@ use Rattle.std.proofs.lemmas.Option.{none-some}
 use Rattle.dpl_syntax.specs.declared.place.Place.{Place}
 use Rattle.dpl_syntax.specs.declared.refusal.Breach.{Breach}
 use Rattle.dpl_syntax.specs.declared.refusal.Code.TheVariants.{NameTwice}
-use Rattle.dpl_language.specs.Tree.{Op, Kind, IntKind, BoolKind, ArrayTypeTree, TypeTree, ScalarType, SyncType, DomainType, ArrayType, TypedTree, InitTree, ItemInit, CreateInit, InitialTree, DeclareTree, StmtTree, Nothing, Declare, Assigned, Call, Write, Block, If, While, For, Forall, Coforall, On, Body, WordBody, BlockBody, Stmts, NoStmts, Then}
+use Rattle.dpl_language.specs.Tree.{Op, Kind, IntKind, BoolKind, ArrayTypeTree, TypeTree, ScalarType, SyncType, DomainType, ArrayType, TypedTree, InitTree, ItemInit, CreateInit, InitialTree, DeclareTree, StmtTree, Declare, Body, WordBody, BlockBody, Stmts, NoStmts, Then}
 use Rattle.dpl_language.specs.Names.{Text}
 use Rattle.dpl_language.specs.Phrases.{declared_over}
 use Rattle.dpl_language.specs.Declarations.{type_of}
@@ -239,18 +239,8 @@ module _ (ss : Scopes) where
 
 -- ---- BEHIND A STATEMENT stands one more name or none.
 pub behind-cases : (P : Scopes → Type 0) (t : StmtTree Text) (ss : Scopes) → P ss → ((d : Declared) → P (add d ss)) → P (behind ss t)
-behind-cases P (Nothing at) ss same more = same
 behind-cases P (Declare d) ss same more = more (declared_by ss d)
-behind-cases P (Assigned target sign item semicolon) ss same more = same
-behind-cases P (Call x dot call semicolon) ss same more = same
-behind-cases P (Write w) ss same more = same
-behind-cases P (Block from ts upto) ss same more = same
-behind-cases P (If at e first second) ss same more = same
-behind-cases P (While at e body) ss same more = same
-behind-cases P (For at xs word item body) ss same more = same
-behind-cases P (Forall at xs word item intents body) ss same more = same
-behind-cases P (Coforall at xs word item intents body) ss same more = same
-behind-cases P (On at e body) ss same more = same
+behind-cases P _ ss same more = same
 
 -- what is in sight before statements is plain where it is so behind them
 stmt-plain : (t : StmtTree Text) (ss : Scopes) → AreKnownScopes (behind ss t) → AreKnownScopes ss
@@ -263,22 +253,12 @@ stmts-plain (Then t rest) ss h = stmt-plain t ss (stmts-plain rest (behind ss t)
 -- BEHIND STATEMENTS
 module _ (start : Start) where
   pub after-stmt : (t : StmtTree Text) (ss : Scopes) (is : List (Bound × Op)) → AreKnownScopes (behind ss t) → after (resolving start) (bound_stmt ss t) (seen_of ss is) ≡ seen_of (behind ss t) is
-  after-stmt (Nothing at) ss is plain = refl
   after-stmt (Declare d) ss is plain =
       let new = declared_by ss d in
       let over = declared-over ss d (before-plain new ss plain) (added-new new ss plain) (added-plain new ss plain) in
       ap (λ o. record { frames = bind (record (sighted (bound_new ss new) PlainForm) { over = o }) (sight_of ss); intents = is }) over
       ∙ ap (λ fs. record { frames = fs; intents = is }) (sym (sight_of-next new ss))
-  after-stmt (Assigned target sign item semicolon) ss is plain = refl
-  after-stmt (Call x dot call semicolon) ss is plain = refl
-  after-stmt (Write w) ss is plain = refl
-  after-stmt (Block from ts upto) ss is plain = refl
-  after-stmt (If at e first second) ss is plain = refl
-  after-stmt (While at e body) ss is plain = refl
-  after-stmt (For at xs word item body) ss is plain = refl
-  after-stmt (Forall at xs word item intents body) ss is plain = refl
-  after-stmt (Coforall at xs word item intents body) ss is plain = refl
-  after-stmt (On at e body) ss is plain = refl
+  after-stmt _ ss is plain = refl
 
 pub after-stmts : (start : Start) (ts : Stmts Text) (ss : Scopes) (is : List (Bound × Op)) → AreKnownScopes (behind_all ss ts) → after_all (resolving start) (bound_stmts ss ts) (seen_of ss is) ≡ seen_of (behind_all ss ts) is
 after-stmts start NoStmts ss is plain = refl

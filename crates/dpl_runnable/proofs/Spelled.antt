@@ -5,7 +5,7 @@ use Rattle.dpl_syntax.specs.declared.place.Place.{Place}
 use Rattle.dpl_syntax.specs.declared.token.Token.{Token}
 use Rattle.dpl_syntax.specs.declared.token.Keyword.{Keyword}
 use Rattle.dpl_language.specs.Names.{Text}
-use Rattle.dpl_language.specs.Tree.{Placed, Stmts, Nothing, Declare, Assigned, Call, Write, Block, If, While, For, Forall, Coforall, On}
+use Rattle.dpl_language.specs.Tree.{Placed, Stmts, Nothing, Declare, Assigned, Call, Write}
 use Rattle.dpl_grammar.specs.Each.{Each}
 use Rattle.dpl_grammar.specs.Rule.{Deep, below, deep}
 use Rattle.dpl_grammar.proofs.Values.{never_holds, OfRule, OfLate, of_any, of_token, of_either, of_many, of_whole, of_part, of_deeper, of_parts, of_closed, of_choice, of_ended, of_dangling, of_last, of_lower}
@@ -46,13 +46,7 @@ top-written (Declare d) h = tt
 top-written (Assigned target sign item semicolon) h = tt
 top-written (Call x dot call semicolon) h = tt
 top-written (Write w) h = tt
-top-written (Block from ts upto) h = h
-top-written (If at e first second) h = h
-top-written (While at e b) h = h
-top-written (For at xs word item b) h = h
-top-written (Forall at xs word item intents b) h = h
-top-written (Coforall at xs word item intents b) h = h
-top-written (On at e b) h = h
+top-written _ h = h
 
 as_top : (g : Deep nested) {r : Rule Statement} → OfRule g Anything r IsWrittenStmt → OfRule g Anything r IsWrittenTop
 as_top g h = record { holds = λ ts t s e. top-written t (h.holds ts t s e) }

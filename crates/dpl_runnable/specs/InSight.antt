@@ -10,8 +10,8 @@ use Rattle.dpl_rules.specs.Sights.{Scopes, declared_here, add}
 use Rattle.dpl_rules.specs.Declarations.{declared_by}
 use Rattle.dpl_rules.specs.Loops.{behind}
 use Rattle.dpl_rules.specs.Sound.{behind_all}
-use Rattle.dpl_words.specs.Words.{IntLeaf, TruthLeaf, RangeLeaf, LocaleLeaf}
-use Rattle.dpl_memory.specs.Memory.{VariableKind, PlainKind, DomainKind, TupleKind, CellKind, ArrayKind}
+use Rattle.dpl_words.specs.Words.{IntLeaf}
+use Rattle.dpl_memory.specs.Memory.{VariableKind, PlainKind, DomainKind, TupleKind}
 use Rattle.dpl_memory.specs.Resolved.{Bound, Seen, Start}
 use Rattle.dpl_bound.specs.Sights.{bound_in, sight_of, AreKnownScopes}
 use Rattle.dpl_bound.specs.Bounds.{bound_new, loop_variable}
@@ -51,9 +51,7 @@ IsOwed start ss d = IsOwedBy d.config start (bound_new ss (declared_by ss d))
 abbrev pub IsSingleKind : VariableKind → Type 0
 IsSingleKind (PlainKind k) = Unit {0}
 IsSingleKind DomainKind = Unit {0}
-IsSingleKind TupleKind = ⊥
-IsSingleKind (ArrayKind k) = ⊥
-IsSingleKind (CellKind c) = ⊥
+IsSingleKind _ = ⊥
 
 abbrev pub IsNoArrayType : Option (TypeTree Text) → Type 0
 IsNoArrayType None = Unit {0}
@@ -70,15 +68,9 @@ bound_initial ss i = option_map (renamed_initial (bound_in ss)) i
 
 -- LOOPS: their variables are ints, or one that is a tuple
 abbrev pub IsTurnKind : Option VariableKind → Type 0
-IsTurnKind None = ⊥
 IsTurnKind (Some (PlainKind IntLeaf)) = Unit {0}
-IsTurnKind (Some (PlainKind TruthLeaf)) = ⊥
-IsTurnKind (Some (PlainKind RangeLeaf)) = ⊥
-IsTurnKind (Some (PlainKind LocaleLeaf)) = ⊥
-IsTurnKind (Some DomainKind) = ⊥
 IsTurnKind (Some TupleKind) = Unit {0}
-IsTurnKind (Some (ArrayKind k)) = ⊥
-IsTurnKind (Some (CellKind k)) = ⊥
+IsTurnKind _ = ⊥
 
 abbrev pub AreTurnKinds : VariablesTree Text → Option VariableKind → Type 0
 AreTurnKinds (OneVariable x) o = IsTurnKind o

@@ -5,7 +5,7 @@ use Rattle.dpl_language.specs.Tree.{Kind, IntKind, BoolKind}
 use Rattle.dpl_language.specs.Names.{Text}
 use Rattle.dpl_rules.specs.Types.{ValueType}
 use Rattle.dpl_rules.specs.Sights.{Declared, Scopes, lookup}
-use Rattle.dpl_words.specs.Words.{LeafKind, IntLeaf, TruthLeaf, RangeLeaf, LocaleLeaf}
+use Rattle.dpl_words.specs.Words.{LeafKind, IntLeaf, TruthLeaf}
 use Rattle.dpl_memory.specs.Memory.{VariableKind, PlainKind, DomainKind, TupleKind, CellKind, ArrayKind}
 use Rattle.dpl_typed.specs.Leaves.{value_kind}
 use Rattle.dpl_bound.specs.Sights.{is_promoted_type}
@@ -19,20 +19,13 @@ leaf_of BoolKind = TruthLeaf
 abbrev pub operand_kind : VariableKind → Option Kind
 operand_kind (PlainKind IntLeaf) = Some IntKind
 operand_kind (PlainKind TruthLeaf) = Some BoolKind
-operand_kind (PlainKind RangeLeaf) = None
-operand_kind (PlainKind LocaleLeaf) = None
-operand_kind DomainKind = None
-operand_kind TupleKind = None
 operand_kind (ArrayKind k) = Some k
-operand_kind (CellKind c) = None
+operand_kind _ = None
 
 -- what has values at each index
 abbrev pub is_promoted : VariableKind → Bool
-is_promoted (PlainKind k) = false
-is_promoted DomainKind = false
-is_promoted TupleKind = false
 is_promoted (ArrayKind k) = true
-is_promoted (CellKind c) = false
+is_promoted _ = false
 
 -- where there is a type, it has a kind
 abbrev pub HasKind : Option ValueType → Type 0
@@ -61,31 +54,22 @@ AreVariables scopes = (x : Text) (d : Declared) → lookup scopes x ≡ Some d �
 abbrev pub IsScalarKind : VariableKind → Type 0
 IsScalarKind (PlainKind IntLeaf) = Unit {0}
 IsScalarKind (PlainKind TruthLeaf) = Unit {0}
-IsScalarKind (PlainKind RangeLeaf) = ⊥
-IsScalarKind (PlainKind LocaleLeaf) = ⊥
-IsScalarKind DomainKind = ⊥
-IsScalarKind TupleKind = ⊥
-IsScalarKind (ArrayKind k) = ⊥
-IsScalarKind (CellKind c) = ⊥
+IsScalarKind _ = ⊥
 
 -- what a declaration gives a name: all but tuples, which loops alone have
 abbrev pub IsDeclaredKind : VariableKind → Type 0
 IsDeclaredKind (PlainKind k) = Unit {0}
 IsDeclaredKind DomainKind = Unit {0}
-IsDeclaredKind TupleKind = ⊥
 IsDeclaredKind (ArrayKind k) = Unit {0}
-IsDeclaredKind (CellKind c) = ⊥
+IsDeclaredKind _ = ⊥
 
 -- what is assigned: ints, truth values, domains and whole arrays
 abbrev pub IsAssignedKind : VariableKind → Type 0
 IsAssignedKind (PlainKind IntLeaf) = Unit {0}
 IsAssignedKind (PlainKind TruthLeaf) = Unit {0}
-IsAssignedKind (PlainKind RangeLeaf) = ⊥
-IsAssignedKind (PlainKind LocaleLeaf) = ⊥
 IsAssignedKind DomainKind = Unit {0}
-IsAssignedKind TupleKind = ⊥
 IsAssignedKind (ArrayKind k) = Unit {0}
-IsAssignedKind (CellKind c) = ⊥
+IsAssignedKind _ = ⊥
 
 -- a name of the first kind is given a value of the second: one of its own, and a whole array also one that each element may be
 abbrev pub IsGivenTo : VariableKind → VariableKind → Type 0
