@@ -1,22 +1,22 @@
 -- Two environments that agree step by step give the same meaning to every tree that fits.
 -- The whole theorem: for each statement, for statements in order, and for a program's statements.
-use Rattle.std.proofs.Common.{◌≡◌, List, [], refl, sym, subst, None, nat_lt}
-use Rattle.std.specs.Prelude.{All}
+use Rattle.std.proofs.Common.{◌≡◌, List, [], refl, sym, subst, Option, None, nat_lt}
+use Rattle.std.specs.Prelude.{All, option_map}
 use Rattle.std.proofs.lemmas.List.Elements.{All-weaker}
 use Rattle.dpl_syntax.specs.declared.place.Place.{Place}
 use Rattle.dpl_sets.specs.TextRanges.{TextRange}
-use Rattle.dpl_language.specs.Tree.{Op, ExprTree, VariablesTree, StmtTree, Nothing, Declare, Assigned, Call, Write, Block, If, While, For, Forall, Coforall, On, Body, WordBody, BlockBody, Stmts, NoStmts, Then, Else, NoElse, ElseDo}
+use Rattle.dpl_language.specs.Tree.{Op, ExprTree, WithTree, VariablesTree, HeadWord, WhileWord, OnWord, LoopWord, ForWord, ForallWord, CoforallWord, StmtTree, Nothing, Declare, Assigned, Call, Write, Block, If, Headed, Loop, Body, WordBody, BlockBody, Stmts, NoStmts, Then, Else, NoElse, ElseDo}
 use Rattle.dpl_language.specs.Values.{Value, Index, number, fault, PastLimit}
 use Rattle.dpl_language.specs.Ranges.{indices_in, size_in, loop_ranges}
 use Rattle.dpl_language.specs.Outcome.{Done, Run, then_do}
 use Rattle.dpl_language.specs.Environment.{Environment, Limits}
 use Rattle.dpl_language.specs.Phrases.{intents_of}
 use Rattle.dpl_language.specs.Loops.{within_budget, named_turn, turn_of}
-use Rattle.dpl_language.specs.Statements.{task_limit, holds, exec, exec_body, exec_all, exec_else}
-use Rattle.dpl_agreement.specs.Renamed.{renamed_expr, renamed_variables, renamed_stmt, renamed_body, renamed_stmts, renamed_else, renamed_intents}
+use Rattle.dpl_language.specs.Statements.{task_limit, holds, headed, looped, exec, exec_body, exec_all, exec_else}
+use Rattle.dpl_agreement.specs.Renamed.{renamed_expr, renamed_with, renamed_variables, renamed_stmt, renamed_body, renamed_stmts, renamed_else, renamed_intents}
 use Rattle.dpl_language.specs.Declarations.{type_of}
 use Rattle.dpl_language.specs.Roots.{dealt}
-use Rattle.dpl_agreement.specs.Scopes.{form_by, Scoping, add_variables, inside, fits_expr, fits_variables, after, after_all, after_body, fits, fits_body, fits_all, fits_else}
+use Rattle.dpl_agreement.specs.Scopes.{form_by, Scoping, add_variables, inside, fits_expr, fits_variables, fits_loop, begun, fits_head, after, after_all, after_body, fits, fits_body, fits_all, fits_else}
 use Rattle.dpl_agreement.specs.Agreement.{Simulates, EndsAlike, RunAlike}
 use Rattle.dpl_agreement.proofs.RunsAlike.{with_ok-same, then_do-alike, with_value-alike, with_value-alike_by, choose-alike, unless-alike, repeated-alike, within_budget-alike, named_turns-alike}
 use Rattle.dpl_agreement.proofs.RenamedParts.{intents_of-renamed}
@@ -59,6 +59,29 @@ module _ {M N G S1 S2 : Type 0} (limits : Limits) (name : N → M) (scoping : Sc
       (p (first.move (number v) s1) (second.move (number v) s2) done (sim.moves (number v) g s1 s2 r m))
       (λ u1 u2 done q. (second.move (second.here s2) u2, subst (λ k. R g (first.move (first.here s1) u1) (second.move k u2)) (sim.heres g s1 s2 r) (sim.moves (first.here s1) g u1 u2 q m), refl))
 
+  -- by the word of a head, and of a loop
+  head-alike : (word : HeadWord) (at : Place) (e : ExprTree N) (g : G) (a1 : Run S1) (a2 : Run S2) → fits_expr scoping None e g → fits_head scoping word g → RunAlike (R g) (R g) a1 a2
+      → RunAlike (R g) (R g) (headed limits first word at (renamed_expr name e) a1) (headed limits second word at e a2)
+  head-alike WhileWord at e g a1 a2 f m p s1 s2 done r =
+      repeated-alike limits.budget at (R g) _ _ _ _ (λ s1 s2 r. holds-renamed e g s1 s2 r f) p s1 s2 done r
+  head-alike OnWord at e g a1 a2 f m p s1 s2 done r =
+      with_value-alike (R g) _ _ _ _ s1 s2 done (value_of-renamed limits name scoping first second R sim e None g s1 s2 r f) (λ v. on-alike g v _ _ m p s1 s2 done r)
+
+  loop-alike : (word : LoopWord) (at : Place) (xs : VariablesTree N) (intents : Option (WithTree N)) (rs : List TextRange) (g : G) (a1 : Index → Run S1) (a2 : Index → Run S2)
+      → fits_loop scoping word xs intents g → All (λ t. RunAlike (R (begun scoping word intents g)) (R (begun scoping word intents g)) (a1 t) (a2 t)) (indices_in rs)
+      → RunAlike (R g) (R g) (looped limits first word at (renamed_variables name xs) (option_map (renamed_with name) intents) rs a1) (looped limits second word at xs intents rs a2)
+  loop-alike ForWord at xs intents rs g a1 a2 f p = within_budget-alike limits at rs (R g) _ _ p
+  loop-alike ForallWord at xs intents rs g a1 a2 f p =
+      subst (λ is. RunAlike (R g) (R g)
+      (λ s done. then_do (within_budget limits at rs (named_turn a1) (first.intend is s) (first.note at rs s done)) (λ s done. Done (first.intend [] s) done))
+      (λ s done. then_do (within_budget limits at rs (named_turn a2) (second.intend (intents_of intents) s) (second.note at rs s done)) (λ s done. Done (second.intend [] s) done)))
+      (sym (intents_of-renamed name intents))
+      (forall-alike at rs g (intents_of intents) _ _ f
+      (within_budget-alike limits at rs (R (scoping.intend (intents_of intents) g)) _ _ (named_turns-alike (indices_in rs) (R (scoping.intend (intents_of intents) g)) a1 a2 p)))
+  loop-alike CoforallWord at xs intents rs g a1 a2 f p =
+      unless-alike (nat_lt task_limit (size_in rs)) (fault PastLimit at) (R g) (R g) _ _
+      (coforall-alike limits name scoping first second R sim xs g (scoping.begin g) a1 a2 (indices_in rs) f p)
+
   mutual
     pub exec-alike : (t : StmtTree N) (g : G) → fits scoping t g → RunAlike (R g) (R (after scoping t g)) (exec limits first (renamed_stmt name t)) (exec limits second t)
     exec-alike (Nothing at) g f s1 s2 done r = (s2, r, refl)
@@ -80,40 +103,16 @@ module _ {M N G S1 S2 : Type 0} (limits : Limits) (name : N → M) (scoping : Sc
         (λ c. choose-alike c (R g) (R g) _ _ _ _
         (scoped-alike limits name scoping first second R sim g (after_body scoping a (scoping.enter g)) _ _ (leave-after_body_in scoping sim.lawful a g) (exec_body-alike a (scoping.enter g) f.1))
         (exec_else-alike b g f.2) s1 s2 done r)
-    exec-alike (While at e body) g f s1 s2 done r =
-        repeated-alike limits.budget at (R g) _ _ _ _ (λ s1 s2 r. holds-renamed e g s1 s2 r f.0)
-        (scoped-alike limits name scoping first second R sim g (after_body scoping body (scoping.enter g)) _ _ (leave-after_body_in scoping sim.lawful body g) (exec_body-alike body (scoping.enter g) f.1)) s1 s2 done r
-    exec-alike (For at xs word item body) g f s1 s2 done r =
+    exec-alike (Headed word at e body) g f s1 s2 done r =
+        head-alike word at e g _ _ f.0 f.2
+        (scoped-alike limits name scoping first second R sim g (after_body scoping body (scoping.enter g)) _ _ (leave-after_body_in scoping sim.lawful body g) (exec_body-alike body (scoping.enter g) f.1))
+        s1 s2 done r
+    exec-alike (Loop word at xs within item intents body) g f s1 s2 done r =
         with_value-alike_by (R g) _ _ _ _ s1 s2 done (item_of-renamed limits name scoping first second R sim item None g s1 s2 r f.0)
-        (λ v e. within_budget-alike limits at (loop_ranges limits.locales v) (R g) _ _
-        (turns-alike xs v (indices_in (loop_ranges limits.locales v)) g body _ _ f.2 (turns-held limits name scoping first second R sim xs item v g s1 s2 r f.1 e)
-        (exec_body-alike body (inside scoping xs g) f.3)) s1 s2 done r)
-    exec-alike (Forall at xs word item intents body) g f s1 s2 done r =
-        with_value-alike_by (R g) _ _ _ _ s1 s2 done (item_of-renamed limits name scoping first second R sim item None g s1 s2 r f.0)
-        (λ v e. subst (λ is. EndsAlike (R g)
-        (then_do (within_budget limits at (loop_ranges limits.locales v) (named_turn (turn_of first (renamed_variables name xs) v (exec_body limits first (renamed_body name body)))) (first.intend is s1) (first.note at (loop_ranges limits.locales v) s1 done))
-        (λ s done. Done (first.intend [] s) done))
-        (then_do (within_budget limits at (loop_ranges limits.locales v) (named_turn (turn_of second xs v (exec_body limits second body))) (second.intend (intents_of intents) s2) (second.note at (loop_ranges limits.locales v) s2 done))
-        (λ s done. Done (second.intend [] s) done)))
-        (sym (intents_of-renamed name intents))
-        (forall-alike at (loop_ranges limits.locales v) g (intents_of intents) _ _ f.2
-        (within_budget-alike limits at (loop_ranges limits.locales v) (R (scoping.intend (intents_of intents) g)) _ _
-        (named_turns-alike (indices_in (loop_ranges limits.locales v)) (R (scoping.intend (intents_of intents) g))
-        (turn_of first (renamed_variables name xs) v (exec_body limits first (renamed_body name body))) (turn_of second xs v (exec_body limits second body))
-        (turns-alike xs v (indices_in (loop_ranges limits.locales v)) (scoping.intend (intents_of intents) g) body _ _ f.3
+        (λ v e. loop-alike word at xs intents (loop_ranges limits.locales v) g _ _ f.2
+        (turns-alike xs v (indices_in (loop_ranges limits.locales v)) (begun scoping word intents g) body _ _ f.3
         (turns-held limits name scoping first second R sim xs item v g s1 s2 r f.1 e)
-        (exec_body-alike body (inside scoping xs (scoping.intend (intents_of intents) g)) f.4)))) s1 s2 done r))
-    exec-alike (Coforall at xs word item intents body) g f s1 s2 done r =
-        with_value-alike_by (R g) _ _ _ _ s1 s2 done (item_of-renamed limits name scoping first second R sim item None g s1 s2 r f.0)
-        (λ v e. unless-alike (nat_lt task_limit (size_in (loop_ranges limits.locales v))) (fault PastLimit at) (R g) (R g) _ _
-        (coforall-alike limits name scoping first second R sim xs g (scoping.begin g)
-        (turn_of first (renamed_variables name xs) v (exec_body limits first (renamed_body name body))) (turn_of second xs v (exec_body limits second body)) (indices_in (loop_ranges limits.locales v)) f.2
-        (turns-alike xs v (indices_in (loop_ranges limits.locales v)) (scoping.begin g) body _ _ f.3 (turns-held limits name scoping first second R sim xs item v g s1 s2 r f.1 e)
-        (exec_body-alike body (inside scoping xs (scoping.begin g)) f.4))) s1 s2 done r)
-    exec-alike (On at e body) g f s1 s2 done r =
-        with_value-alike (R g) _ _ _ _ s1 s2 done (value_of-renamed limits name scoping first second R sim e None g s1 s2 r f.0)
-        (λ v. on-alike g v _ _ f.1
-        (scoped-alike limits name scoping first second R sim g (after_body scoping body (scoping.enter g)) _ _ (leave-after_body_in scoping sim.lawful body g) (exec_body-alike body (scoping.enter g) f.2)) s1 s2 done r)
+        (exec_body-alike body (inside scoping xs (begun scoping word intents g)) f.4)) s1 s2 done r)
 
     exec_body-alike : (b : Body N) (g : G) → fits_body scoping b g → RunAlike (R g) (R (after_body scoping b g)) (exec_body limits first (renamed_body name b)) (exec_body limits second b)
     exec_body-alike (WordBody at t) g f s1 s2 done r = exec-alike t g f s1 s2 done r

@@ -3,13 +3,13 @@
 use Rattle.std.proofs.Common.{pos, List, [], ◌∷◌, refl, Some, None, Option}
 use Rattle.dpl_syntax.specs.declared.place.Place.{Place}
 use Rattle.dpl_language.specs.Tree.{Placed, Kind, ExprTree, Number, TruthWord, Named, LocalesWord, LocaleCount, HereWord, Grouped, DomainLiteral, Prefixed, Reduced, Chain, Postfixed, ItemTree, One, RangeItem, Stride, NoStride, By, Links, NoLinks, Link, Posts, NoPosts, Post, PostTree, Brackets, Rounds, Dotted, MethodTree, Plainly, Dim, Contains, Expand, CellRead, Items, FirstItem, MoreItems, NoItems, NextItem, Exprs, FirstExpr, MoreExprs, NoExprs, NextExpr}
-use Rattle.dpl_language.specs.Tree.{StartTree, StartExpr, StartTuple, MapTree, BlockMap, CyclicMap, BlockCyclicMap, MappedTree, TypeTree, ScalarType, SyncType, DomainType, ArrayType, InitTree, ItemInit, CreateInit, InitialTree, DeclareTree, ArgumentTree, TextArgument, ExprArgument, VariablesTree, OneVariable, ManyVariables, TargetTree, Whole, Element, CallTree, ReadCall, ResetCall, WriteCall, StmtTree, Nothing, Declare, Assigned, Call, Write, Block, If, While, For, Forall, Coforall, On, Body, WordBody, BlockBody, Stmts, NoStmts, Then, Else, NoElse, ElseDo}
+use Rattle.dpl_language.specs.Tree.{StartTree, StartExpr, StartTuple, MapTree, BlockMap, CyclicMap, BlockCyclicMap, MappedTree, TypeTree, ScalarType, SyncType, DomainType, ArrayType, InitTree, ItemInit, CreateInit, InitialTree, DeclareTree, ArgumentTree, TextArgument, ExprArgument, WithTree, VariablesTree, OneVariable, ManyVariables, TargetTree, Whole, Element, CallTree, ReadCall, ResetCall, WriteCall, HeadWord, WhileWord, OnWord, LoopWord, ForWord, ForallWord, CoforallWord, StmtTree, Nothing, Declare, Assigned, Call, Write, Block, If, Headed, Loop, Body, WordBody, BlockBody, Stmts, NoStmts, Then, Else, NoElse, ElseDo}
 use Rattle.dpl_language.specs.Values.{Value, Int, Domain, Index, default}
 use Rattle.dpl_language.specs.Ranges.{empty_domain}
 use Rattle.dpl_language.specs.Phrases.{Base, BaseName, BaseLocales, OtherBase, base_of, bare_name, ReadTree, item_read, parts}
 use Rattle.dpl_language.specs.Declarations.{type_of}
 use Rattle.dpl_language.specs.Writing.{arguments_of}
-use Rattle.dpl_agreement.specs.Scopes.{Form, form_by, Scoping, IsLawful, items_in, fits_name, fits_element, fits_expr, fits_item, fits_stride, fits_links, fits_posts, fits_post, fits_method, fits_items, fits_more_items, fits_exprs, fits_more_exprs, fits_read, fits_side, fits_whole_side, fits_type, side_by, fits_init, fits_initial, fits_given, initial_map, fits_each_value, fits_start, fits_map, fits_mapped, fits_maps, suits_init, suits_initial, suits_elements, suits_array, suits_declared, fits_declare, fits_target, side_for, suits_target, fits_call, fits_shown, fits_arguments, fits_each, fits_variables, holds_ints, suits_turns, fits, fits_body, fits_all, fits_else}
+use Rattle.dpl_agreement.specs.Scopes.{Form, form_by, Scoping, IsLawful, items_in, fits_name, fits_element, fits_expr, fits_item, fits_stride, fits_links, fits_posts, fits_post, fits_method, fits_items, fits_more_items, fits_exprs, fits_more_exprs, fits_read, fits_side, fits_whole_side, fits_type, side_by, fits_init, fits_initial, fits_given, initial_map, fits_each_value, fits_start, fits_map, fits_mapped, fits_maps, suits_init, suits_initial, suits_elements, suits_array, suits_declared, fits_declare, fits_target, side_for, suits_target, fits_call, fits_shown, fits_arguments, fits_each, fits_variables, fits_loop, fits_head, holds_ints, suits_turns, fits, fits_body, fits_all, fits_else}
 
 -- any name may be used in any way, and nothing is kept of what is in sight
 abbrev pub anything : {N : Type 0} → Scoping N (Unit {0})
@@ -41,6 +41,10 @@ anything = record {
 
 pub anything-lawful : {N : Type 0} → IsLawful (anything {N = N})
 anything-lawful = record { leave-enter = λ g. refl; leave-add = λ x form g. refl; reads-add = λ x form g d. tt }
+
+head_fits : (N : Type 0) (word : HeadWord) → fits_head (anything {N = N}) word tt
+head_fits N WhileWord = tt
+head_fits N OnWord = tt
 
 module _ {N : Type 0} where
   name_fits : (t : Option Index) (x : N) → fits_name anything t x tt
@@ -238,6 +242,11 @@ module _ {N : Type 0} where
   turns_suit (OneVariable x) i = tt
   turns_suit (ManyVariables from xs upto) i = ints_hold (parts xs)
 
+  loop_fits : (word : LoopWord) (xs : VariablesTree N) (intents : Option (WithTree N)) → fits_loop anything word xs intents tt
+  loop_fits ForWord xs intents = tt
+  loop_fits ForallWord xs intents = tt
+  loop_fits CoforallWord xs intents = tt
+
   mutual
     pub stmt_fits : (t : StmtTree N) → fits anything t tt
     stmt_fits (Nothing at) = tt
@@ -247,11 +256,8 @@ module _ {N : Type 0} where
     stmt_fits (Write w) = arguments_fit (arguments_of w.arguments)
     stmt_fits (Block from body upto) = stmts_fit body
     stmt_fits (If at e first second) = (expr_fits e None, body_fits first, else_fits second)
-    stmt_fits (While at e body) = (expr_fits e None, body_fits body)
-    stmt_fits (For at xs word item body) = (item_fits item None, turns_suit xs item, variables_fit xs, body_fits body)
-    stmt_fits (Forall at xs word item intents body) = (item_fits item None, turns_suit xs item, tt, variables_fit xs, body_fits body)
-    stmt_fits (Coforall at xs word item intents body) = (item_fits item None, turns_suit xs item, tt, variables_fit xs, body_fits body)
-    stmt_fits (On at e body) = (expr_fits e None, tt, body_fits body)
+    stmt_fits (Headed word at e body) = (expr_fits e None, body_fits body, head_fits N word)
+    stmt_fits (Loop word at xs within item intents body) = (item_fits item None, turns_suit xs item, loop_fits word xs intents, variables_fit xs, body_fits body)
 
     body_fits : (b : Body N) → fits_body anything b tt
     body_fits (WordBody at t) = stmt_fits t

@@ -5,7 +5,7 @@ use Rattle.std.specs.Prelude.{All}
 use Rattle.std.proofs.lemmas.List.Elements.{All-head, All-tail}
 use Rattle.dpl_history.specs.declared.cell.CellState.{CellState}
 use Rattle.dpl_history.specs.declared.history.Event.{Event}
-use Rattle.dpl_language.specs.Tree.{Placed, ItemTree, VariablesTree, OneVariable, ManyVariables, StmtTree, Nothing, Declare, Assigned, Call, Write, Block, If, While, For, Forall, Coforall, On, Body, WordBody, BlockBody, Stmts, NoStmts, Then}
+use Rattle.dpl_language.specs.Tree.{Placed, ItemTree, VariablesTree, OneVariable, ManyVariables, StmtTree, Declare, Body, WordBody, BlockBody, Stmts, NoStmts, Then}
 use Rattle.dpl_language.specs.Values.{Value, Int, Index}
 use Rattle.dpl_language.specs.Ranges.{indices_in, loop_ranges, loop_value}
 use Rattle.dpl_language.specs.Outcome.{Solo, no_deeds, with_entered, Done, Run}
@@ -32,18 +32,8 @@ module _ {N G : Type 0} (scoping : Scoping N G) (lawful : IsLawful scoping) wher
   leave-add_variables (ManyVariables from xs upto) g = leave-add_each (parts xs) g
 
   pub leave-after : (t : StmtTree N) (g : G) → scoping.leave (after scoping t g) ≡ scoping.leave g
-  leave-after (Nothing at) g = refl
   leave-after (Declare d) g = lawful.leave-add d.name.name (form_by (type_of d.typed)) g
-  leave-after (Assigned target sign item semicolon) g = refl
-  leave-after (Call x dot call semicolon) g = refl
-  leave-after (Write w) g = refl
-  leave-after (Block from body upto) g = refl
-  leave-after (If at e first second) g = refl
-  leave-after (While at e body) g = refl
-  leave-after (For at xs word item body) g = refl
-  leave-after (Forall at xs word item intents body) g = refl
-  leave-after (Coforall at xs word item intents body) g = refl
-  leave-after (On at e body) g = refl
+  leave-after _ g = refl
 
   leave-after_all : (ts : Stmts N) (g : G) → scoping.leave (after_all scoping ts g) ≡ scoping.leave g
   leave-after_all NoStmts g = refl

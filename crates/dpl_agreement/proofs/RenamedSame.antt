@@ -4,7 +4,7 @@ use Rattle.std.proofs.Common.{◌≡◌, List, [], ◌∷◌, refl, ap, ◌∙�
 use Rattle.std.specs.Prelude.{option_map}
 use Rattle.dpl_language.specs.Tree.{AfterComma, Listed, Op, ExprTree, Number, TruthWord, Named, LocalesWord, LocaleCount, HereWord, Grouped, DomainLiteral, Prefixed, Reduced, Chain, Postfixed, ItemTree, One, RangeItem, Stride, NoStride, By, Links, NoLinks, Link, Posts, NoPosts, Post, PostTree, Brackets, Rounds, Dotted, MethodTree, Plainly, Dim, Contains, Expand, CellRead, Items, FirstItem, MoreItems, NoItems, NextItem, Exprs, FirstExpr, MoreExprs, NoExprs, NextExpr}
 use Rattle.dpl_language.specs.Tree.{StartTree, StartExpr, StartTuple, MapTree, BlockMap, CyclicMap, BlockCyclicMap, MappedTree, TypeTree, ScalarType, SyncType, DomainType, ArrayType, InitTree, ItemInit, CreateInit, TypedTree, InitialTree, DeclareTree}
-use Rattle.dpl_language.specs.Tree.{ArgumentTree, TextArgument, ExprArgument, WriteTree, IntentTree, ReduceIntent, RefIntent, WithTree, VariablesTree, OneVariable, ManyVariables, TargetTree, Whole, Element, CallTree, ReadCall, ResetCall, WriteCall, StmtTree, Nothing, Declare, Assigned, Call, Write, Block, If, While, For, Forall, Coforall, On, Body, WordBody, BlockBody, Stmts, NoStmts, Then, Else, NoElse, ElseDo, ProgramTree}
+use Rattle.dpl_language.specs.Tree.{ArgumentTree, TextArgument, ExprArgument, WriteTree, IntentTree, ReduceIntent, RefIntent, WithTree, VariablesTree, OneVariable, ManyVariables, TargetTree, Whole, Element, CallTree, ReadCall, ResetCall, WriteCall, StmtTree, Nothing, Declare, Assigned, Call, Write, Block, If, Headed, Loop, Body, WordBody, BlockBody, Stmts, NoStmts, Then, Else, NoElse, ElseDo, ProgramTree}
 use Rattle.dpl_language.specs.Environment.{Content, Plain, ArrayOf, CellOf}
 use Rattle.dpl_agreement.specs.Renamed.{map_comma, map_listed, renamed, renamed_expr, renamed_item, renamed_stride, renamed_links, renamed_posts, renamed_post, renamed_method, renamed_items, renamed_more_items, renamed_exprs, renamed_more_exprs, renamed_start, renamed_map, renamed_mapped, renamed_type, renamed_init, renamed_typed, renamed_initial, renamed_declare, renamed_argument, renamed_write, renamed_intent, renamed_with, renamed_variables, renamed_target, renamed_call, renamed_stmt, renamed_body, renamed_stmts, renamed_else, renamed_program, renamed_content, renamed_intents}
 
@@ -212,21 +212,13 @@ module _ {N : Type 0} where
     renamed_stmt-same (If at e first second) =
         ap (λ e. If at e (renamed_body itself first) (renamed_else itself second)) (renamed_expr-same e)
         ∙ ap (λ b. If at e b (renamed_else itself second)) (renamed_body-same first) ∙ ap (If at e first) (renamed_else-same second)
-    renamed_stmt-same (While at e body) = ap (λ e. While at e (renamed_body itself body)) (renamed_expr-same e) ∙ ap (While at e) (renamed_body-same body)
-    renamed_stmt-same (For at xs word item body) =
-        ap (λ ys. For at ys word (renamed_item itself item) (renamed_body itself body)) (renamed_variables-same xs)
-        ∙ ap (λ i. For at xs word i (renamed_body itself body)) (renamed_item-same item) ∙ ap (For at xs word item) (renamed_body-same body)
-    renamed_stmt-same (Forall at xs word item intents body) =
-        ap (λ ys. Forall at ys word (renamed_item itself item) (option_map (renamed_with itself) intents) (renamed_body itself body)) (renamed_variables-same xs)
-        ∙ ap (λ i. Forall at xs word i (option_map (renamed_with itself) intents) (renamed_body itself body)) (renamed_item-same item)
-        ∙ ap (λ w. Forall at xs word item w (renamed_body itself body)) (option_map-same (renamed_with itself) renamed_with-same intents)
-        ∙ ap (Forall at xs word item intents) (renamed_body-same body)
-    renamed_stmt-same (Coforall at xs word item intents body) =
-        ap (λ ys. Coforall at ys word (renamed_item itself item) (option_map (renamed_with itself) intents) (renamed_body itself body)) (renamed_variables-same xs)
-        ∙ ap (λ i. Coforall at xs word i (option_map (renamed_with itself) intents) (renamed_body itself body)) (renamed_item-same item)
-        ∙ ap (λ w. Coforall at xs word item w (renamed_body itself body)) (option_map-same (renamed_with itself) renamed_with-same intents)
-        ∙ ap (Coforall at xs word item intents) (renamed_body-same body)
-    renamed_stmt-same (On at e body) = ap (λ e. On at e (renamed_body itself body)) (renamed_expr-same e) ∙ ap (On at e) (renamed_body-same body)
+    renamed_stmt-same (Headed word at e body) =
+        ap (λ e. Headed word at e (renamed_body itself body)) (renamed_expr-same e) ∙ ap (Headed word at e) (renamed_body-same body)
+    renamed_stmt-same (Loop word at xs within item intents body) =
+        ap (λ ys. Loop word at ys within (renamed_item itself item) (option_map (renamed_with itself) intents) (renamed_body itself body)) (renamed_variables-same xs)
+        ∙ ap (λ i. Loop word at xs within i (option_map (renamed_with itself) intents) (renamed_body itself body)) (renamed_item-same item)
+        ∙ ap (λ w. Loop word at xs within item w (renamed_body itself body)) (option_map-same (renamed_with itself) renamed_with-same intents)
+        ∙ ap (Loop word at xs within item intents) (renamed_body-same body)
 
     pub renamed_body-same : (b : Body N) → renamed_body itself b ≡ b
     renamed_body-same (WordBody at t) = ap (WordBody at) (renamed_stmt-same t)

@@ -10,8 +10,8 @@ use Rattle.dpl_history.specs.declared.cell.CellOp.TheVariants.{Reset}
 use Rattle.dpl_history.specs.declared.cell.Reply.{Reply}
 use Rattle.dpl_history.specs.declared.cell.Reply.TheVariants.{Value as Given, Done as NoValue}
 use Rattle.dpl_sets.specs.TextRanges.{TextRange}
-use Rattle.dpl_language.specs.Tree.{Placed, AfterComma, Listed, Op, Kind, IntKind, BoolKind, Assign, Set, SetAdd, SetSubtract, SetMultiply, SetDivide, SetRemainder, SetReduce, AssignTree, ExprTree, ItemTree, One, Exprs, TypeTree, ScalarType, SyncType, DomainType, ArrayType, ArrayTypeTree, InitTree, ItemInit, CreateInit, TypedTree, InitialTree, DeclareTree, ArgumentTree, TextArgument, ExprArgument, WriteTree, VariablesTree, OneVariable, ManyVariables, TargetTree, Whole, Element, CallTree, ReadCall, ResetCall, WriteCall}
-use Rattle.dpl_language.specs.Tree.{StmtTree, Nothing, Declare, Assigned, Call, Write, Block, If, While, For, Forall, Coforall, On, Body, WordBody, BlockBody, Stmts, NoStmts, Then, Else, NoElse, ElseDo}
+use Rattle.dpl_language.specs.Tree.{Placed, AfterComma, Listed, Op, Kind, IntKind, BoolKind, Assign, Set, SetAdd, SetSubtract, SetMultiply, SetDivide, SetRemainder, SetReduce, AssignTree, ExprTree, ItemTree, One, Exprs, TypeTree, ScalarType, SyncType, DomainType, ArrayType, ArrayTypeTree, InitTree, ItemInit, CreateInit, TypedTree, InitialTree, DeclareTree, ArgumentTree, TextArgument, ExprArgument, WriteTree, WithTree, VariablesTree, OneVariable, ManyVariables, TargetTree, Whole, Element, CallTree, ReadCall, ResetCall, WriteCall}
+use Rattle.dpl_language.specs.Tree.{HeadWord, WhileWord, OnWord, LoopWord, ForWord, ForallWord, CoforallWord, StmtTree, Nothing, Declare, Assigned, Call, Write, Block, If, Headed, Loop, Body, WordBody, BlockBody, Stmts, NoStmts, Then, Else, NoElse, ElseDo}
 use Rattle.dpl_language.specs.Values.{Value, Int, Truth, Range, Domain, Array, Cell, Locale, AllLocales, Tuple, Index, number, index_of, ranges_in, array_domain, is_domain, cell_kind, kept_number, default, Fault, fault, Budget, ZeroDivisor, ArrayTooLarge}
 use Rattle.dpl_language.specs.Arithmetic.{assigned, assign_divides, tested_divisor}
 use Rattle.dpl_language.specs.Ranges.{indices_in, size_in, too_large, empty_domain, loop_ranges, index_value, loop_value}
@@ -24,8 +24,8 @@ use Rattle.dpl_language.specs.Assignments.{reply_value, and_no_more, answered, c
 use Rattle.dpl_language.specs.Declarations.{gathered, filled, Shell, array_with, type_of, declaring, initial_then, declare_with, array_of_item, array_of_init, array_of, declare_array, declare_typed, given_or, declare_by}
 use Rattle.dpl_language.specs.Roots.{dealt}
 use Rattle.dpl_language.specs.Writing.{line_end, arguments_of, shown, arguments_then, write}
-use Rattle.dpl_language.specs.Statements.{holds, exec, exec_body, exec_all, exec_else}
-use Rattle.dpl_agreement.specs.Untasked.{UntaskedIf, UntaskedOthers, UntaskedList, UntaskedExpr, UntaskedItem, UntaskedItems, UntaskedExprs, UntaskedType, UntaskedInit, UntaskedTyped, UntaskedInitial, UntaskedDeclare, UntaskedArgument, UntaskedWrite, UntaskedTarget, UntaskedCall, UntaskedStmt, UntaskedBody, UntaskedStmts, UntaskedElse}
+use Rattle.dpl_language.specs.Statements.{holds, headed, looped, exec, exec_body, exec_all, exec_else}
+use Rattle.dpl_agreement.specs.Untasked.{UntaskedIf, UntaskedOthers, UntaskedList, UntaskedExpr, UntaskedItem, UntaskedItems, UntaskedExprs, UntaskedType, UntaskedInit, UntaskedTyped, UntaskedInitial, UntaskedDeclare, UntaskedArgument, UntaskedWrite, UntaskedTarget, UntaskedCall, UntaskedHead, UntaskedLoop, UntaskedStmt, UntaskedBody, UntaskedStmts, UntaskedElse}
 use Rattle.dpl_agreement.specs.Agreement.{EndsAlike, RunAlike}
 use Rattle.dpl_agreement.proofs.RunsAlike.{All-every, with_ok-same, then_do-alike, with_value-alike_by, choose-alike, unless-alike, repeated-alike, named_turn-alike, within_budget-alike}
 use Rattle.dpl_agreement.proofs.UntaskedValues.{NotLocales, NoLocalesIn, HoldsBehind, HoldsNoLocales, combined-free, tested-free, found-free, SameOk, SameFree, with_ok-of, value_of-free, item_of-free, values_of-same, domain_of-free}
@@ -328,6 +328,24 @@ module _ {N S : Type 0} (budget l m : ℕ) (env : Environment N S) (P : S → Ty
   holds-same : (e : ExprTree N) (s : S) → UntaskedExpr e → P s → holds one env e s ≡ holds other env e s
   holds-same e s u k = with_ok-same _ _ _ _ (value_of-free budget l m env P laws e None s u k).0 (λ v. refl)
 
+  -- by the word of a head, and of a loop
+  head-same : (word : HeadWord) (at : Place) (e : ExprTree N) (a b : Run S) → UntaskedExpr e → UntaskedHead word → Alike a b → Alike (headed one env word at e a) (headed other env word at e b)
+  head-same WhileWord at e a b u w p = repeated-alike budget at Kept _ _ _ _ (λ s1 s2 r. holds-same e s1 u r.0 ∙ ap (holds other env e) r.1) p
+  head-same OnWord at e a b u w p = absurd w
+
+  loop-same : (word : LoopWord) (at : Place) (xs : VariablesTree N) (intents : Option (WithTree N)) (v : Value) (a b : Index → Run S) → NotLocales v → UntaskedLoop word → ((t : Index) → Alike (a t) (b t))
+      → Alike (looped one env word at xs intents (loop_ranges l v) a) (looped other env word at xs intents (loop_ranges m v) b)
+  loop-same ForWord at xs intents v a b h w p = turns-same at v a b h p
+  loop-same ForallWord at xs intents v a b h w p = λ s1 s2 done r. then_do-alike Kept Kept _ _ _ _
+      (subst (λ noted. EndsAlike Kept
+      (within_budget one at (loop_ranges l v) (named_turn a) (env.intend (intents_of intents) s1) (env.note at (loop_ranges l v) s1 done))
+      (within_budget other at (loop_ranges m v) (named_turn b) (env.intend (intents_of intents) s2) noted))
+      (ap (λ rs. env.note at rs s1 done) (loop_ranges-same l m v h) ∙ ap (λ s. env.note at (loop_ranges m v) s done) r.1)
+      (turns-same at v _ _ h (named_turn-alike Kept _ _ p)
+      (env.intend (intents_of intents) s1) (env.intend (intents_of intents) s2) (env.note at (loop_ranges l v) s1 done) (laws.intends (intents_of intents) s1 r.0, ap (env.intend (intents_of intents)) r.1)))
+      (step (env.intend []) (laws.intends []))
+  loop-same CoforallWord at xs intents v a b h w p = absurd w
+
   mutual
     exec-same : (t : StmtTree N) → UntaskedStmt t → Alike (exec one env t) (exec other env t)
     exec-same (Nothing at) u = step (λ s. s) (λ s k. k)
@@ -339,23 +357,10 @@ module _ {N S : Type 0} (budget l m : ℕ) (env : Environment N S) (P : S → Ty
     exec-same (If at e first second) u =
         with_value-any (λ s. holds one env e s) (λ s. holds other env e s) _ _ (λ s k. holds-same e s u.0 k)
         (λ b. choose-alike b Kept Kept _ _ _ _ (scoped-same _ _ (exec_body-same first u.1)) (exec_else-same second u.2))
-    exec-same (While at e body) u =
-        repeated-alike budget at Kept _ _ _ _ (λ s1 s2 r. holds-same e s1 u.0 r.0 ∙ ap (holds other env e) r.1) (scoped-same _ _ (exec_body-same body u.1))
-    exec-same (For at xs word item body) u =
+    exec-same (Headed word at e body) u = head-same word at e _ _ u.0 u.2 (scoped-same _ _ (exec_body-same body u.1))
+    exec-same (Loop word at xs within item intents body) u =
         with_value-of NotLocales (λ s. item_of one env item None s) (λ s. item_of other env item None s) _ _ (λ s k. item_of-free budget l m env P laws item None s u.0 k)
-        (λ v h. turns-same at v _ _ h (turn_of-same xs v _ _ (exec_body-same body u.1)))
-    exec-same (Forall at xs word item intents body) u =
-        with_value-of NotLocales (λ s. item_of one env item None s) (λ s. item_of other env item None s) _ _ (λ s k. item_of-free budget l m env P laws item None s u.0 k)
-        (λ v h s1 s2 done r. then_do-alike Kept Kept _ _ _ _
-        (subst (λ noted. EndsAlike Kept
-        (within_budget one at (loop_ranges l v) (named_turn (turn_of env xs v (exec_body one env body))) (env.intend (intents_of intents) s1) (env.note at (loop_ranges l v) s1 done))
-        (within_budget other at (loop_ranges m v) (named_turn (turn_of env xs v (exec_body other env body))) (env.intend (intents_of intents) s2) noted))
-        (ap (λ rs. env.note at rs s1 done) (loop_ranges-same l m v h) ∙ ap (λ s. env.note at (loop_ranges m v) s done) r.1)
-        (turns-same at v _ _ h (named_turn-alike Kept _ _ (turn_of-same xs v _ _ (exec_body-same body u.1)))
-        (env.intend (intents_of intents) s1) (env.intend (intents_of intents) s2) (env.note at (loop_ranges l v) s1 done) (laws.intends (intents_of intents) s1 r.0, ap (env.intend (intents_of intents)) r.1)))
-        (step (env.intend []) (laws.intends [])))
-    exec-same (Coforall at xs word item intents body) u = absurd u
-    exec-same (On at e body) u = absurd u
+        (λ v h. loop-same word at xs intents v _ _ h u.2 (turn_of-same xs v _ _ (exec_body-same body u.1)))
 
     exec_body-same : (b : Body N) → UntaskedBody b → Alike (exec_body one env b) (exec_body other env b)
     exec_body-same (WordBody at t) u = exec-same t u

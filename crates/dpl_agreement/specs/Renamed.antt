@@ -3,7 +3,7 @@
 use Rattle.std.specs.Prelude.{List, [], ◌∷◌, map, option_map}
 use Rattle.dpl_language.specs.Tree.{Placed, AfterComma, Listed, Op, ExprTree, Number, TruthWord, Named, LocalesWord, LocaleCount, HereWord, Grouped, DomainLiteral, Prefixed, Reduced, Chain, Postfixed, ItemTree, One, RangeItem, Stride, NoStride, By, Links, NoLinks, Link, Posts, NoPosts, Post, PostTree, Brackets, Rounds, Dotted, MethodTree, Plainly, Dim, Contains, Expand, CellRead, Items, FirstItem, MoreItems, NoItems, NextItem, Exprs, FirstExpr, MoreExprs, NoExprs, NextExpr}
 use Rattle.dpl_language.specs.Tree.{StartTree, StartExpr, StartTuple, MapTree, BlockMap, CyclicMap, BlockCyclicMap, MappedTree, ArrayTypeTree, TypeTree, ScalarType, SyncType, DomainType, ArrayType, InitTree, ItemInit, CreateInit, TypedTree, InitialTree, DeclareTree}
-use Rattle.dpl_language.specs.Tree.{ArgumentTree, TextArgument, ExprArgument, WriteTree, IntentTree, ReduceIntent, RefIntent, WithTree, VariablesTree, OneVariable, ManyVariables, TargetTree, Whole, Element, CallTree, ReadCall, ResetCall, WriteCall, StmtTree, Nothing, Declare, Assigned, Call, Write, Block, If, While, For, Forall, Coforall, On, Body, WordBody, BlockBody, Stmts, NoStmts, Then, Else, NoElse, ElseDo, ProgramTree}
+use Rattle.dpl_language.specs.Tree.{ArgumentTree, TextArgument, ExprArgument, WriteTree, IntentTree, ReduceIntent, RefIntent, WithTree, VariablesTree, OneVariable, ManyVariables, TargetTree, Whole, Element, CallTree, ReadCall, ResetCall, WriteCall, StmtTree, Nothing, Declare, Assigned, Call, Write, Block, If, Headed, Loop, Body, WordBody, BlockBody, Stmts, NoStmts, Then, Else, NoElse, ElseDo, ProgramTree}
 use Rattle.dpl_language.specs.Environment.{Content, Plain, ArrayOf, CellOf}
 use Rattle.dpl_language.specs.Phrases.{Base, BaseName, BaseLocales, OtherBase, ReadTree}
 
@@ -190,13 +190,9 @@ module _ {M N : Type 0} (f : M → N) where
     renamed_stmt (Write w) = Write (renamed_write w)
     renamed_stmt (Block from body upto) = Block from (renamed_stmts body) upto
     renamed_stmt (If at e first second) = If at (renamed_expr e) (renamed_body first) (renamed_else second)
-    renamed_stmt (While at e body) = While at (renamed_expr e) (renamed_body body)
-    renamed_stmt (For at xs word item body) = For at (renamed_variables xs) word (renamed_item item) (renamed_body body)
-    renamed_stmt (Forall at xs word item intents body) =
-        Forall at (renamed_variables xs) word (renamed_item item) (option_map renamed_with intents) (renamed_body body)
-    renamed_stmt (Coforall at xs word item intents body) =
-        Coforall at (renamed_variables xs) word (renamed_item item) (option_map renamed_with intents) (renamed_body body)
-    renamed_stmt (On at e body) = On at (renamed_expr e) (renamed_body body)
+    renamed_stmt (Headed word at e body) = Headed word at (renamed_expr e) (renamed_body body)
+    renamed_stmt (Loop word at xs within item intents body) =
+        Loop word at (renamed_variables xs) within (renamed_item item) (option_map renamed_with intents) (renamed_body body)
 
     pub renamed_body : Body M → Body N
     renamed_body (WordBody at t) = WordBody at (renamed_stmt t)

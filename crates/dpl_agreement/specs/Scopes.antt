@@ -4,7 +4,7 @@ use Rattle.std.specs.Prelude.{◌≡◌, ℤ, pos, Option, Some, None, List, [],
 use Rattle.dpl_syntax.specs.declared.place.Place.{Place}
 use Rattle.dpl_history.specs.declared.cell.CellState.{CellState}
 use Rattle.dpl_language.specs.Tree.{Placed, Op, Assign, Kind, ExprTree, Number, TruthWord, Named, LocalesWord, LocaleCount, HereWord, Grouped, DomainLiteral, Prefixed, Reduced, Chain, Postfixed, ItemTree, One, RangeItem, Stride, NoStride, By, Links, NoLinks, Link, Posts, NoPosts, Post, PostTree, Brackets, Rounds, Dotted, MethodTree, Plainly, Dim, Contains, Expand, CellRead, Items, FirstItem, MoreItems, NoItems, NextItem, Exprs, FirstExpr, MoreExprs, NoExprs, NextExpr}
-use Rattle.dpl_language.specs.Tree.{StartTree, StartExpr, StartTuple, MapTree, BlockMap, CyclicMap, BlockCyclicMap, MappedTree, TypeTree, ScalarType, SyncType, DomainType, ArrayType, InitTree, ItemInit, CreateInit, InitialTree, DeclareTree, ArgumentTree, TextArgument, ExprArgument, VariablesTree, OneVariable, ManyVariables, TargetTree, Whole, Element, CallTree, ReadCall, ResetCall, WriteCall, StmtTree, Nothing, Declare, Assigned, Call, Write, Block, If, While, For, Forall, Coforall, On, Body, WordBody, BlockBody, Stmts, NoStmts, Then, Else, NoElse, ElseDo}
+use Rattle.dpl_language.specs.Tree.{StartTree, StartExpr, StartTuple, MapTree, BlockMap, CyclicMap, BlockCyclicMap, MappedTree, TypeTree, ScalarType, SyncType, DomainType, ArrayType, InitTree, ItemInit, CreateInit, InitialTree, DeclareTree, ArgumentTree, TextArgument, ExprArgument, WithTree, VariablesTree, OneVariable, ManyVariables, TargetTree, Whole, Element, CallTree, ReadCall, ResetCall, WriteCall, HeadWord, WhileWord, OnWord, LoopWord, ForWord, ForallWord, CoforallWord, StmtTree, Nothing, Declare, Assigned, Call, Write, Block, If, Headed, Loop, Body, WordBody, BlockBody, Stmts, NoStmts, Then, Else, NoElse, ElseDo}
 use Rattle.dpl_language.specs.Values.{Value, Int, Domain, Index, default}
 use Rattle.dpl_language.specs.Ranges.{empty_domain}
 use Rattle.dpl_language.specs.Environment.{Content, Plain, ArrayOf, CellOf}
@@ -332,21 +332,27 @@ module _ {N G : Type 0} (scoping : Scoping N G) where
   suits_turns (OneVariable x) item g = scoping.turns x.name item g
   suits_turns (ManyVariables from xs upto) item g = holds_ints (parts xs)
 
+  -- a forall's reduce variables, and what is in sight in its turns; a coforall's variable, and what is in sight in its tasks
+  abbrev pub fits_loop : LoopWord → VariablesTree N → Option (WithTree N) → G → Type 0
+  fits_loop ForWord xs intents g = Unit {0}
+  fits_loop ForallWord xs intents g = scoping.intends (intents_of intents) g
+  fits_loop CoforallWord xs intents g = scoping.coforalls (first_name xs) g
+
+  abbrev pub begun : LoopWord → Option (WithTree N) → G → G
+  begun ForWord intents g = g
+  begun ForallWord intents g = scoping.intend (intents_of intents) g
+  begun CoforallWord intents g = scoping.begin g
+
+  -- a body on a locale
+  abbrev pub fits_head : HeadWord → G → Type 0
+  fits_head WhileWord g = Unit {0}
+  fits_head OnWord g = scoping.moves g
+
   -- STATEMENTS
   -- what is in sight behind a statement
   abbrev pub after : StmtTree N → G → G
-  after (Nothing at) g = g
   after (Declare d) g = scoping.add d.name.name (form_by (type_of d.typed)) g
-  after (Assigned target sign item semicolon) g = g
-  after (Call x dot call semicolon) g = g
-  after (Write w) g = g
-  after (Block from body upto) g = g
-  after (If at e first second) g = g
-  after (While at e body) g = g
-  after (For at xs word item body) g = g
-  after (Forall at xs word item intents body) g = g
-  after (Coforall at xs word item intents body) g = g
-  after (On at e body) g = g
+  after _ g = g
 
   abbrev pub after_all : Stmts N → G → G
   after_all NoStmts g = g
@@ -366,18 +372,11 @@ module _ {N G : Type 0} (scoping : Scoping N G) where
     fits (Write w) g = fits_arguments (arguments_of w.arguments) g
     fits (Block from body upto) g = fits_all body (scoping.enter g)
     fits (If at e first second) g = fits_expr None e g × fits_body first (scoping.enter g) × fits_else second g
-    fits (While at e body) g = fits_expr None e g × fits_body body (scoping.enter g)
-    fits (For at xs word item body) g =
-        fits_item None item g × suits_turns xs item g × fits_variables xs (scoping.enter g) × fits_body body (inside xs g)
-    fits (Forall at xs word item intents body) g =
-        fits_item None item g × suits_turns xs item g × scoping.intends (intents_of intents) g
-        × fits_variables xs (scoping.enter (scoping.intend (intents_of intents) g))
-        × fits_body body (inside xs (scoping.intend (intents_of intents) g))
-    fits (Coforall at xs word item intents body) g =
-        fits_item None item g × suits_turns xs item g × scoping.coforalls (first_name xs) g
-        × fits_variables xs (scoping.enter (scoping.begin g))
-        × fits_body body (inside xs (scoping.begin g))
-    fits (On at e body) g = fits_expr None e g × scoping.moves g × fits_body body (scoping.enter g)
+    fits (Headed word at e body) g = fits_expr None e g × fits_body body (scoping.enter g) × fits_head word g
+    fits (Loop word at xs within item intents body) g =
+        fits_item None item g × suits_turns xs item g × fits_loop word xs intents g
+        × fits_variables xs (scoping.enter (begun word intents g))
+        × fits_body body (inside xs (begun word intents g))
 
     pub fits_body : Body N → G → Type 0
     fits_body (WordBody at t) g = fits t g

@@ -2,7 +2,7 @@
 -- What such a program means doesn't hang on the number of locales.
 use Rattle.std.specs.Prelude.{List, [], ◌∷◌, Option, Some, None}
 use Rattle.dpl_language.specs.Tree.{AfterComma, Listed, ExprTree, Number, TruthWord, Named, LocalesWord, LocaleCount, HereWord, Grouped, DomainLiteral, Prefixed, Reduced, Chain, Postfixed, ItemTree, One, RangeItem, Stride, NoStride, By, Links, NoLinks, Link, Posts, NoPosts, Post, PostTree, Brackets, Rounds, Dotted, MethodTree, Plainly, Dim, Contains, Expand, CellRead, Items, FirstItem, MoreItems, NoItems, NextItem, Exprs, FirstExpr, MoreExprs, NoExprs, NextExpr}
-use Rattle.dpl_language.specs.Tree.{StartTree, StartExpr, StartTuple, MapTree, BlockMap, CyclicMap, BlockCyclicMap, MappedTree, TypeTree, ScalarType, SyncType, DomainType, ArrayType, InitTree, ItemInit, CreateInit, TypedTree, InitialTree, DeclareTree, ArgumentTree, TextArgument, ExprArgument, WriteTree, TargetTree, Whole, Element, CallTree, ReadCall, ResetCall, WriteCall, StmtTree, Nothing, Declare, Assigned, Call, Write, Block, If, While, For, Forall, Coforall, On, Body, WordBody, BlockBody, Stmts, NoStmts, Then, Else, NoElse, ElseDo}
+use Rattle.dpl_language.specs.Tree.{StartTree, StartExpr, StartTuple, MapTree, BlockMap, CyclicMap, BlockCyclicMap, MappedTree, TypeTree, ScalarType, SyncType, DomainType, ArrayType, InitTree, ItemInit, CreateInit, TypedTree, InitialTree, DeclareTree, ArgumentTree, TextArgument, ExprArgument, WriteTree, TargetTree, Whole, Element, CallTree, ReadCall, ResetCall, WriteCall, HeadWord, WhileWord, OnWord, LoopWord, ForWord, ForallWord, CoforallWord, StmtTree, Nothing, Declare, Assigned, Call, Write, Block, If, Headed, Loop, Body, WordBody, BlockBody, Stmts, NoStmts, Then, Else, NoElse, ElseDo}
 
 -- of what may be left out, and of the parts of a list with commas
 abbrev pub UntaskedIf : {A : Type 0} → (A → Type 0) → Option A → Type 0
@@ -15,6 +15,16 @@ UntaskedOthers P (x ∷ xs) = P x.part × UntaskedOthers P xs
 
 abbrev pub UntaskedList : {A : Type 0} → (A → Type 0) → Listed A → Type 0
 UntaskedList P xs = P xs.first × UntaskedOthers P xs.others
+
+-- `on` and `coforall` are words of tasks
+abbrev pub UntaskedHead : HeadWord → Type 0
+UntaskedHead WhileWord = Unit {0}
+UntaskedHead OnWord = ⊥
+
+abbrev pub UntaskedLoop : LoopWord → Type 0
+UntaskedLoop ForWord = Unit {0}
+UntaskedLoop ForallWord = Unit {0}
+UntaskedLoop CoforallWord = ⊥
 
 module _ {N : Type 0} where
   -- EXPRESSIONS
@@ -133,11 +143,8 @@ module _ {N : Type 0} where
     UntaskedStmt (Write w) = UntaskedWrite w
     UntaskedStmt (Block from body upto) = UntaskedStmts body
     UntaskedStmt (If at e first second) = UntaskedExpr e × UntaskedBody first × UntaskedElse second
-    UntaskedStmt (While at e body) = UntaskedExpr e × UntaskedBody body
-    UntaskedStmt (For at xs word item body) = UntaskedItem item × UntaskedBody body
-    UntaskedStmt (Forall at xs word item intents body) = UntaskedItem item × UntaskedBody body
-    UntaskedStmt (Coforall at xs word item intents body) = ⊥
-    UntaskedStmt (On at e body) = ⊥
+    UntaskedStmt (Headed word at e body) = UntaskedExpr e × UntaskedBody body × UntaskedHead word
+    UntaskedStmt (Loop word at xs within item intents body) = UntaskedItem item × UntaskedBody body × UntaskedLoop word
 
     pub UntaskedBody : Body N → Type 0
     UntaskedBody (WordBody at t) = UntaskedStmt t

@@ -1,13 +1,13 @@
 -- A program with its names resolved by the scopes as they stand where each name does.
 -- A declared name has the next slot, and any other the leaf of its innermost declaration. So the tree tells how many slots it needs.
 use Rattle.std.specs.Prelude.{ℕ, ◌+◌, max, List, [], ◌∷◌, Option, option_map}
-use Rattle.dpl_language.specs.Tree.{Placed, AfterComma, ItemTree, VariablesTree, OneVariable, ManyVariables, DeclareTree, TargetTree, Whole, Element, StmtTree, Nothing, Declare, Assigned, Call, Write, Block, If, While, For, Forall, Coforall, On, Body, WordBody, BlockBody, Stmts, NoStmts, Then, Else, NoElse, ElseDo, ProgramTree}
+use Rattle.dpl_language.specs.Tree.{Placed, AfterComma, ItemTree, VariablesTree, OneVariable, ManyVariables, DeclareTree, TargetTree, Whole, Element, LoopWord, StmtTree, Nothing, Declare, Assigned, Call, Write, Block, If, Headed, Loop, Body, WordBody, BlockBody, Stmts, NoStmts, Then, Else, NoElse, ElseDo, ProgramTree}
 use Rattle.dpl_language.specs.Names.{Text}
 use Rattle.dpl_agreement.specs.Renamed.{renamed, renamed_expr, renamed_exprs, renamed_item, renamed_typed, renamed_initial, renamed_write, renamed_with, renamed_call}
 use Rattle.dpl_rules.specs.Types.{ValueType}
 use Rattle.dpl_rules.specs.Sights.{LoopVariable, Declared, Scopes, enter, add, origin_in}
 use Rattle.dpl_rules.specs.Declarations.{declared_by}
-use Rattle.dpl_rules.specs.Loops.{LoopWord, ForWord, ForallWord, CoforallWord, typed_variable, over_type, variables_of, in_loop, behind}
+use Rattle.dpl_rules.specs.Loops.{typed_variable, over_type, variables_of, in_loop, behind}
 use Rattle.dpl_rules.specs.Breaches.{top}
 use Rattle.dpl_scopes.specs.Slots.{next_slot_in}
 use Rattle.dpl_memory.specs.Memory.{VariableKind, PlainKind, DomainKind, TupleKind, CellKind, ArrayKind, Variable}
@@ -80,15 +80,10 @@ abbrev mutual
   bound_stmt ss (Write w) = Write (renamed_write (bound_in ss) w)
   bound_stmt ss (Block from body upto) = Block from (bound_stmts (enter ss) body) upto
   bound_stmt ss (If at e first second) = If at (renamed_expr (bound_in ss) e) (bound_body (enter ss) first) (bound_else ss second)
-  bound_stmt ss (While at e body) = While at (renamed_expr (bound_in ss) e) (bound_body (enter ss) body)
-  bound_stmt ss (For at xs word item body) = For at (bound_variables (loop_type ss ForWord xs item) (enter ss) xs) word (renamed_item (bound_in ss) item) (bound_body (in_loop ss ForWord xs item) body)
-  bound_stmt ss (Forall at xs word item intents body) =
-      Forall at (bound_variables (loop_type ss ForallWord xs item) (enter ss) xs) word (renamed_item (bound_in ss) item) (option_map (renamed_with (bound_in ss)) intents)
-      (bound_body (in_loop ss ForallWord xs item) body)
-  bound_stmt ss (Coforall at xs word item intents body) =
-      Coforall at (bound_variables (loop_type ss CoforallWord xs item) (enter ss) xs) word (renamed_item (bound_in ss) item) (option_map (renamed_with (bound_in ss)) intents)
-      (bound_body (in_loop ss CoforallWord xs item) body)
-  bound_stmt ss (On at e body) = On at (renamed_expr (bound_in ss) e) (bound_body (enter ss) body)
+  bound_stmt ss (Headed word at e body) = Headed word at (renamed_expr (bound_in ss) e) (bound_body (enter ss) body)
+  bound_stmt ss (Loop word at xs within item intents body) =
+      Loop word at (bound_variables (loop_type ss word xs item) (enter ss) xs) within (renamed_item (bound_in ss) item) (option_map (renamed_with (bound_in ss)) intents)
+      (bound_body (in_loop ss word xs item) body)
 
   -- a body, in the scope that was opened for it
   pub bound_body : Scopes → Body Text → Body Bound
@@ -127,11 +122,8 @@ abbrev mutual
   slots_stmt ss (Write w) n = n
   slots_stmt ss (Block from body upto) n = slots_stmts (enter ss) body n
   slots_stmt ss (If at e first second) n = slots_else ss second (slots_body (enter ss) first n)
-  slots_stmt ss (While at e body) n = slots_body (enter ss) body n
-  slots_stmt ss (For at xs word item body) n = slots_body (in_loop ss ForWord xs item) body (slots_turn ss ForWord xs item n)
-  slots_stmt ss (Forall at xs word item intents body) n = slots_body (in_loop ss ForallWord xs item) body (slots_turn ss ForallWord xs item n)
-  slots_stmt ss (Coforall at xs word item intents body) n = slots_body (in_loop ss CoforallWord xs item) body (slots_turn ss CoforallWord xs item n)
-  slots_stmt ss (On at e body) n = slots_body (enter ss) body n
+  slots_stmt ss (Headed word at e body) n = slots_body (enter ss) body n
+  slots_stmt ss (Loop word at xs within item intents body) n = slots_body (in_loop ss word xs item) body (slots_turn ss word xs item n)
 
   pub slots_body : Scopes → Body Text → ℕ → ℕ
   slots_body ss (WordBody at t) n = slots_stmt ss t n

@@ -5,7 +5,7 @@ use Rattle.std.specs.Prelude.{option_map}
 use Rattle.dpl_syntax.specs.declared.place.Place.{Place}
 use Rattle.dpl_syntax.specs.declared.refusal.Breach.{Breach}
 use Rattle.dpl_syntax.proofs.Walks.{drop-at}
-use Rattle.dpl_language.specs.Tree.{ExprTree, ItemTree, VariablesTree, WithTree, DeclareTree, StmtTree, If, While, For, Forall, Block, Body, WordBody, BlockBody, Stmts, NoStmts, Then, Else, ElseDo}
+use Rattle.dpl_language.specs.Tree.{ExprTree, ItemTree, VariablesTree, WithTree, DeclareTree, WhileWord, LoopWord, ForWord, ForallWord, StmtTree, If, Headed, Loop, Block, Body, WordBody, BlockBody, Stmts, NoStmts, Then, Else, ElseDo}
 use Rattle.dpl_language.specs.Names.{Text}
 use Rattle.dpl_language.specs.Phrases.{intents_of}
 use Rattle.dpl_agreement.specs.Renamed.{renamed_expr, renamed_item, renamed_with, renamed_intents}
@@ -16,7 +16,7 @@ use Rattle.dpl_rules.specs.Breaches.{least_from}
 use Rattle.dpl_rules.specs.Sights.{Scopes, enter}
 use Rattle.dpl_rules.specs.Types.{ValueType, has}
 use Rattle.dpl_rules.specs.Deeds.{Deed}
-use Rattle.dpl_rules.specs.Loops.{LoopWord, ForWord, ForallWord, in_loop, behind}
+use Rattle.dpl_rules.specs.Loops.{in_loop, behind}
 use Rattle.dpl_types.proofs.Unbroken.{unbroken}
 use Rattle.dpl_lowered.specs.Shapes.{nowhere}
 use Rattle.dpl_lowered.specs.LoweredExpressions.{Once, lowered_expr, lowered_item}
@@ -64,11 +64,11 @@ both f {a} {b} {x} {y} e g = ap (λ z. f z x) e ∙ ap (f b) g
 
 -- ---- conditions
 pub while-made : (ss : Scopes) (at : Place) (spot : Bor Place) (e : ExprTree Text) (body : Body Text) (steps : Bor (List Step)) (s : Step)
-    → spot.now ≡ at → body_leaves (enter ss) body ≡ listed (steps_of steps.now) → step_view s ≡ While spot.now (leaves_of ss Once e) (listed (steps_of steps.now))
-    → stmt_leaves ss (While at e body) ≡ step_view s
+    → spot.now ≡ at → body_leaves (enter ss) body ≡ listed (steps_of steps.now) → step_view s ≡ Headed WhileWord spot.now (leaves_of ss Once e) (listed (steps_of steps.now))
+    → stmt_leaves ss (Headed WhileWord at e body) ≡ step_view s
 while-made ss at spot e body steps s near h made =
-    ap (λ x. While x (lowered_expr known_variable Once (renamed_expr variable_of (renamed_expr (bound_in ss) e))) (body_leaves (enter ss) body)) (sym near)
-    ∙ both (While spot.now) (expr-leaves ss Once e) h ∙ sym made
+    ap (λ x. Headed WhileWord x (lowered_expr known_variable Once (renamed_expr variable_of (renamed_expr (bound_in ss) e))) (body_leaves (enter ss) body)) (sym near)
+    ∙ both (Headed WhileWord spot.now) (expr-leaves ss Once e) h ∙ sym made
 
 pub if-made : (ss : Scopes) (at : Place) (e : ExprTree Text) (first : Body Text) (steps : Bor (List Step)) (second : Else Text) (other : ElseNode) (s : Step)
     → body_leaves (enter ss) first ≡ listed (steps_of steps.now) → else_leaves ss second ≡ else_view other
@@ -94,26 +94,26 @@ module _ (ss : Scopes) (at word : Place) (xs : VariablesTree Text) (item : ItemT
   items = lowered_item known_variable Once (renamed_item variable_of (renamed_item (bound_in ss) item))
 
   pub for-made : IsOpened ss ForWord xs item o → body_leaves (in_loop ss ForWord xs item) body ≡ listed (steps_of steps.now)
-      → step_view s ≡ For spot.now (names_view o.names) nowhere (over_item o.over) (listed (steps_of steps.now)) → stmt_leaves ss (For at xs word item body) ≡ step_view s
+      → step_view s ≡ Loop ForWord spot.now (names_view o.names) nowhere (over_item o.over) None (listed (steps_of steps.now)) → stmt_leaves ss (Loop ForWord at xs word item None body) ≡ step_view s
   for-made opened h made =
       let turns = body_leaves (in_loop ss ForWord xs item) body in
-      ap (λ y. For y (variables_leaves (loop_type ss ForWord xs item) (enter ss) xs) nowhere items turns) (sym near)
-      ∙ ap (λ ys. For spot.now ys nowhere items turns) (sym opened.names)
-      ∙ both (For spot.now (names_view o.names) nowhere) (items-leaves ss Once item ∙ sym opened.over) h ∙ sym made
+      ap (λ y. Loop ForWord y (variables_leaves (loop_type ss ForWord xs item) (enter ss) xs) nowhere items None turns) (sym near)
+      ∙ ap (λ ys. Loop ForWord spot.now ys nowhere items None turns) (sym opened.names)
+      ∙ both (λ i t. Loop ForWord spot.now (names_view o.names) nowhere i None t) (items-leaves ss Once item ∙ sym opened.over) h ∙ sym made
 
   pub forall-made : (w : Option (WithTree Text)) (is : List Intent) → IsOpened ss ForallWord xs item o → map intent_view is ≡ reduced_leaves ss (intents_of w)
       → body_leaves (in_loop ss ForallWord xs item) body ≡ listed (steps_of steps.now)
-      → step_view s ≡ Forall spot.now (names_view o.names) nowhere (over_item o.over) (with_intents (map intent_view is)) (listed (steps_of steps.now))
-      → stmt_leaves ss (Forall at xs word item w body) ≡ step_view s
+      → step_view s ≡ Loop ForallWord spot.now (names_view o.names) nowhere (over_item o.over) (with_intents (map intent_view is)) (listed (steps_of steps.now))
+      → stmt_leaves ss (Loop ForallWord at xs word item w body) ≡ step_view s
   forall-made w is opened reduced h made =
       let turns = body_leaves (in_loop ss ForallWord xs item) body in
       let bound = option_map (renamed_with (bound_in ss)) w in
       let intents = intents_of (option_map (renamed_with variable_of) bound) in
       let kept : intents ≡ map intent_view is = intents_of-renamed variable_of bound ∙ ap (renamed_intents variable_of) (intents_of-renamed (bound_in ss) w) ∙ sym reduced in
-      ap (λ y. Forall y (variables_leaves (loop_type ss ForallWord xs item) (enter ss) xs) nowhere items (with_intents intents) turns) (sym near)
-      ∙ ap (λ ys. Forall spot.now ys nowhere items (with_intents intents) turns) (sym opened.names)
-      ∙ ap (λ v. Forall spot.now (names_view o.names) nowhere items (with_intents v) turns) kept
-      ∙ both (λ i t. Forall spot.now (names_view o.names) nowhere i (with_intents (map intent_view is)) t) (items-leaves ss Once item ∙ sym opened.over) h ∙ sym made
+      ap (λ y. Loop ForallWord y (variables_leaves (loop_type ss ForallWord xs item) (enter ss) xs) nowhere items (with_intents intents) turns) (sym near)
+      ∙ ap (λ ys. Loop ForallWord spot.now ys nowhere items (with_intents intents) turns) (sym opened.names)
+      ∙ ap (λ v. Loop ForallWord spot.now (names_view o.names) nowhere items (with_intents v) turns) kept
+      ∙ both (λ i t. Loop ForallWord spot.now (names_view o.names) nowhere i (with_intents (map intent_view is)) t) (items-leaves ss Once item ∙ sym opened.over) h ∙ sym made
 
 -- ---- bodies
 pub only-made : (ss : Scopes) (t : StmtTree Text) (s : Step) (empty pushed steps : List Step) → empty ≡ [] → pushed ≡ empty ++ s ∷ [] → steps ≡ pushed

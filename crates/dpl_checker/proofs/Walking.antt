@@ -5,7 +5,7 @@ use Rattle.std.specs.Global.{Vec}
 use Rattle.dpl_syntax.specs.declared.place.Place.{Place}
 use Rattle.dpl_syntax.specs.declared.refusal.Breach.{Breach}
 use Rattle.dpl_syntax.proofs.Walks.{drop-at}
-use Rattle.dpl_language.specs.Tree.{ExprTree, ItemTree, VariablesTree, DeclareTree, StmtTree, If, While, For, Forall, Coforall, On, Body, WordBody, BlockBody, Stmts, NoStmts, Else}
+use Rattle.dpl_language.specs.Tree.{ExprTree, ItemTree, VariablesTree, DeclareTree, WhileWord, OnWord, LoopWord, ForWord, ForallWord, CoforallWord, StmtTree, If, Headed, Loop, Body, WordBody, BlockBody, Stmts, NoStmts, Else}
 use Rattle.dpl_language.specs.Names.{Text}
 use Rattle.dpl_language.specs.Phrases.{intents_of}
 use Rattle.dpl_tree.specs.declared.statement.Stmt.{Stmt}
@@ -15,7 +15,7 @@ use Rattle.dpl_tree.specs.Statements.{with_view, stmt_view, stmts_of}
 use Rattle.dpl_rules.specs.Types.{ValueType}
 use Rattle.dpl_rules.specs.Sights.{Scopes, enter}
 use Rattle.dpl_rules.specs.Assignments.{condition_breaches, on_breaches}
-use Rattle.dpl_rules.specs.Loops.{LoopWord, ForWord, ForallWord, CoforallWord, typed_variable, over_type, variables_of, add_variables, each_once, header_breaches, with_breaches, behind}
+use Rattle.dpl_rules.specs.Loops.{typed_variable, over_type, variables_of, add_variables, each_once, header_breaches, with_breaches, behind}
 use Rattle.dpl_rules.specs.Deeds.{Deed, AForall, ACoforall, AnOn, held, expr_deeds, item_deeds}
 use Rattle.dpl_rules.specs.Doings.{with_deeds, stmt_deeds, body_deeds, stmts_deeds, else_deeds}
 use Rattle.dpl_rules.specs.Bodies.{ForallScope, names_of, forall_scope, forall_breaches, task_breaches}
@@ -67,7 +67,7 @@ else_where ss n around t b c e f w =
 
 pub while_walks : (at : Place) (e : ExprTree Text) (body : Body Text) (around : Around) (a b c : Walk)
     → Walks a.scopes a.slots (expr_deeds a.scopes e) (condition_breaches (sight_in a.scopes around) e) [] a b → WalksBody around body b c
-    → WalksStmt around (While at e body) a c
+    → WalksStmt around (Headed WhileWord at e body) a c
 while_walks at e body around a b c tested w =
     let ss = a.scopes in
     let n = a.slots in
@@ -91,7 +91,7 @@ if_walks at e first second around a b c d tested w x =
 
 pub on_walks : (at : Place) (e : ExprTree Text) (body : Body Text) (around : Around) (a b c : Walk)
     → Walks a.scopes a.slots (held at AnOn ++ expr_deeds a.scopes e) (on_breaches (sight_in a.scopes around) e) [] a b → WalksBody around body b c
-    → WalksStmt around (On at e body) a c
+    → WalksStmt around (Headed OnWord at e body) a c
 on_walks at e body around a b c sent w =
     let ss = a.scopes in
     let n = a.slots in
@@ -169,14 +169,19 @@ loop_walks word xs item a rs ds p q t b typed told added opened once is =
 
 pub for_walks : (at : Place) (xs : VariablesTree Text) (word : Place) (item : ItemTree Text) (body : Body Text) (around : Around) (a b c : Walk) (left : Scopes)
     → WalksLoop ForWord xs item a b → WalksBody around body b c → left ≡ drop 1 c.scopes
-    → WalksStmt around (For at xs word item body) a (record c { scopes = left })
+    → WalksStmt around (Loop ForWord at xs word item None body) a (record c { scopes = left })
 for_walks at xs word item body around a b c left opened w l =
     let ss = a.scopes in
     let vs = of_variables ss ForWord xs item in
     let n = slots_turn ss ForWord xs item a.slots in
     let turns = body_where vs n around body b c opened.scopes opened.slots w in
-    let all = walks_then vs vs n (slots_body (enter vs) body n) (item_deeds ss item) (body_deeds (enter vs) body) (header_breaches ss ForWord xs item) (body_breaches (sight_in (enter vs) around) body)
-    [] (body_declarations body) a b c opened turns in
+    let owed = header_breaches ss ForWord xs item in
+    let read = item_deeds ss item in
+    let head =
+    subst (λ ds. Walks vs n ds (owed ++ [] ++ []) [] a b) (sym (append-nil read))
+    (subst (λ bs. Walks vs n read bs [] a b) (sym (append-nil (owed ++ []) ∙ append-nil owed)) opened) in
+    let all = walks_then vs vs n (slots_body (enter vs) body n) (read ++ []) (body_deeds (enter vs) body) (owed ++ [] ++ []) (body_breaches (sight_in (enter vs) around) body)
+    [] (body_declarations body) a b c head turns in
     record { scopes = variables_left ss ForWord xs item c.scopes left turns.scopes l; slots = all.slots; deeds = all.deeds; told = all.told; counts = all.counts }
 
 -- what a loop's body adds stands behind the deeds before it
@@ -208,7 +213,7 @@ module _ (at : Place) (xs : VariablesTree Text) (word : Place) (item : ItemTree 
       → WalksBody (in_turns depth with around) body b c
       → left ≡ drop 1 c.scopes
       → told ≡ least_from c.first (forall_breaches (turns_at depth xs with) (map deed_view (drop start c.deeds.items)))
-      → WalksStmt around (Forall at xs word item (optional with_view with) body) a (record c { scopes = left; first = told })
+      → WalksStmt around (Loop ForallWord at xs word item (optional with_view with) body) a (record c { scopes = left; first = told })
   forall_walks depth start a b c left told deep opened begin w l t =
       let ss = a.scopes in
       let intents = optional with_view with in
@@ -238,7 +243,7 @@ module _ (at : Place) (xs : VariablesTree Text) (word : Place) (item : ItemTree 
       → WalksBody (in_task around) body (record b { deeds = intended }) c
       → left ≡ drop 1 c.scopes
       → told ≡ least_from c.first (task_breaches depth (map deed_view (drop start c.deeds.items)))
-      → WalksStmt around (Coforall at xs word item (optional with_view with) body) a (record c { scopes = left; first = told })
+      → WalksStmt around (Loop CoforallWord at xs word item (optional with_view with) body) a (record c { scopes = left; first = told })
   coforall_walks depth start a marked b intended c left told deep mark opened begin intend w l t =
       let ss = a.scopes in
       let intents = optional with_view with in

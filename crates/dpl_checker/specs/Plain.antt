@@ -1,9 +1,9 @@
 -- Statements that run, as far as no rule says so: no tasks, locales and cells; what is in sight is known where a statement stands, its parts are
 -- simple by their form, their names are found and their places are near. Each is asked of where it stands.
-use Rattle.dpl_language.specs.Tree.{StmtTree, Nothing, Declare, Assigned, Call, Write, Block, If, While, For, Forall, Coforall, On, Body, WordBody, BlockBody, Stmts, NoStmts, Then, Else, NoElse, ElseDo}
+use Rattle.dpl_language.specs.Tree.{WhileWord, OnWord, CoforallWord, StmtTree, Nothing, Declare, Assigned, Call, Write, Block, If, Headed, Loop, Body, WordBody, BlockBody, Stmts, NoStmts, Then, Else, NoElse, ElseDo}
 use Rattle.dpl_language.specs.Names.{Text}
 use Rattle.dpl_rules.specs.Sights.{Scopes, enter}
-use Rattle.dpl_rules.specs.Loops.{ForWord, ForallWord, in_loop, behind}
+use Rattle.dpl_rules.specs.Loops.{in_loop, behind}
 use Rattle.dpl_nodes.specs.Spots.{IsNear}
 use Rattle.dpl_assignments.specs.Plain.{IsPlain}
 use Rattle.dpl_declarations.specs.Plain.{IsPlain as IsPlainDeclare}
@@ -19,11 +19,10 @@ abbrev mutual
   IsPlainStmt ss (Write w) = IsPlainPrint ss w
   IsPlainStmt ss (Block from ts upto) = ArePlainStmts (enter ss) ts
   IsPlainStmt ss (If at e first second) = IsPlainExpr ss e × IsPlainBody (enter ss) first × IsPlainElse ss second
-  IsPlainStmt ss (While at e body) = IsNear at × IsPlainExpr ss e × IsPlainBody (enter ss) body
-  IsPlainStmt ss (For at xs word item body) = IsNear at × IsPlainHead ss xs item × IsPlainBody (in_loop ss ForWord xs item) body
-  IsPlainStmt ss (Forall at xs word item intents body) = IsNear at × IsPlainHead ss xs item × IsPlainBody (in_loop ss ForallWord xs item) body
-  IsPlainStmt ss (Coforall at xs word item intents body) = ⊥
-  IsPlainStmt ss (On at e body) = ⊥
+  IsPlainStmt ss (Headed WhileWord at e body) = IsNear at × IsPlainExpr ss e × IsPlainBody (enter ss) body
+  IsPlainStmt ss (Headed OnWord at e body) = ⊥
+  IsPlainStmt ss (Loop CoforallWord at xs within item intents body) = ⊥
+  IsPlainStmt ss (Loop word at xs within item intents body) = IsNear at × IsPlainHead ss xs item × IsPlainBody (in_loop ss word xs item) body
 
   -- a body, in the scope that was opened for it
   pub IsPlainBody : Scopes → Body Text → Type 0

@@ -1,5 +1,6 @@
 -- Statements with bodies, as they are parsed.
-use Rattle.dpl_language.specs.Tree.{StmtTree, If, While, For, Forall, Coforall, On}
+use Rattle.std.specs.Prelude.{None}
+use Rattle.dpl_language.specs.Tree.{WhileWord, OnWord, ForWord, ForallWord, CoforallWord, StmtTree, If, Headed, Loop}
 use Rattle.dpl_language.specs.Names.{Text}
 use Rattle.dpl_tree.specs.declared.statement.If.{If as IfNode}
 use Rattle.dpl_tree.specs.declared.statement.While.{While as WhileNode}
@@ -15,16 +16,16 @@ abbrev pub if_tree : IfNode → StmtTree Text
 if_tree t = If t.at (expr_view t.condition.now) (body_view t.body) (else_view t.otherwise)
 
 abbrev pub while_tree : WhileNode → StmtTree Text
-while_tree t = While t.at (expr_view t.condition.now) (body_view t.body)
+while_tree t = Headed WhileWord t.at (expr_view t.condition.now) (body_view t.body)
 
 abbrev pub for_tree : ForNode → StmtTree Text
-for_tree t = For t.at (variables_view t.variables) t.within (item_view t.over) (body_view t.body)
+for_tree t = Loop ForWord t.at (variables_view t.variables) t.within (item_view t.over) None (body_view t.body)
 
 abbrev pub forall_tree : ForallNode → StmtTree Text
-forall_tree t = Forall t.at (variables_view t.variables) t.within (item_view t.over) (optional with_view t.with) (body_view t.body)
+forall_tree t = Loop ForallWord t.at (variables_view t.variables) t.within (item_view t.over) (optional with_view t.with) (body_view t.body)
 
 abbrev pub coforall_tree : CoforallNode → StmtTree Text
-coforall_tree t = Coforall t.at (variables_view t.variables) t.within (item_view t.over) (optional with_view t.with) (body_view t.body)
+coforall_tree t = Loop CoforallWord t.at (variables_view t.variables) t.within (item_view t.over) (optional with_view t.with) (body_view t.body)
 
 abbrev pub on_tree : OnNode → StmtTree Text
-on_tree t = On t.at (expr_view t.locale.now) (body_view t.body)
+on_tree t = Headed OnWord t.at (expr_view t.locale.now) (body_view t.body)

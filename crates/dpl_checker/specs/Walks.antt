@@ -3,10 +3,10 @@
 use Rattle.std.specs.Prelude.{◌≡◌, ◌++◌, ℕ, false, List, [], Option, None, option_map}
 use Rattle.dpl_syntax.specs.declared.place.Place.{Place}
 use Rattle.dpl_syntax.specs.declared.refusal.Breach.{Breach}
-use Rattle.dpl_language.specs.Tree.{ItemTree, VariablesTree, WithTree, DeclareTree, StmtTree, Body, WordBody, BlockBody, Else, Stmts}
+use Rattle.dpl_language.specs.Tree.{ItemTree, VariablesTree, WithTree, DeclareTree, LoopWord, ForallWord, StmtTree, Body, WordBody, BlockBody, Else, Stmts}
 use Rattle.dpl_language.specs.Names.{Text}
 use Rattle.dpl_rules.specs.Sights.{Scopes, Sight, enter}
-use Rattle.dpl_rules.specs.Loops.{LoopWord, ForallWord, typed_variable, over_type, variables_of, add_variables, behind, header_breaches, with_breaches}
+use Rattle.dpl_rules.specs.Loops.{typed_variable, over_type, variables_of, add_variables, behind, header_breaches, with_breaches}
 use Rattle.dpl_rules.specs.Sound.{behind_all}
 use Rattle.dpl_rules.specs.Deeds.{Deed, AForall, held, item_deeds}
 use Rattle.dpl_rules.specs.Doings.{with_deeds, stmt_deeds, body_deeds, stmts_deeds, else_deeds}

@@ -2,12 +2,11 @@
 // A loop's head opens the scope of its variables.
 
 ghost use Rattle.std.specs.Prelude.{◌++◌, [], OnOk, IfOk};
-ghost use Rattle.dpl_language.specs.Tree.{Declare as DeclareTree, Assigned as AssignedTree, Call as CallTree, Write as WriteTree};
+ghost use Rattle.dpl_language.specs.Tree.{Declare as DeclareTree, Assigned as AssignedTree, Call as CallTree, Write as WriteTree, ForallWord};
 ghost use Rattle.dpl_tree.specs.View.{name_view, expr_view, item_view};
 ghost use Rattle.dpl_tree.specs.Declarations.{optional, declare_view};
 ghost use Rattle.dpl_tree.specs.Statements.{target_view, sign_view, call_view, written_view, variables_view, with_view};
 ghost use Rattle.dpl_rules.specs.Assignments.{condition_breaches, on_breaches};
-ghost use Rattle.dpl_rules.specs.Loops.{ForallWord};
 ghost use Rattle.dpl_heads.specs.Told.{word_view};
 ghost use Rattle.dpl_rules.specs.Deeds.{held as held_of, AnOn, expr_deeds as expr_deeds_of};
 ghost use Rattle.dpl_checker.specs.declared.walk.Around.{Around as AroundNode};

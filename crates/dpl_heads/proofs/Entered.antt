@@ -3,13 +3,13 @@
 use Rattle.std.proofs.Common.{◌≡◌, true, false, not, is_some, List, [], ◌∷◌, drop, Option, Some, None, refl, sym, ap, ◌∙◌, subst}
 use Rattle.dpl_syntax.specs.declared.refusal.Breach.{Breach}
 use Rattle.dpl_syntax.specs.declared.refusal.Code.TheVariants.{NameTwice}
-use Rattle.dpl_language.specs.Tree.{IntKind, BoolKind, Placed, ItemTree, VariablesTree, OneVariable, ManyVariables}
+use Rattle.dpl_language.specs.Tree.{IntKind, BoolKind, Placed, ItemTree, VariablesTree, OneVariable, ManyVariables, LoopWord}
 use Rattle.dpl_language.specs.Names.{Text}
 use Rattle.dpl_rules.specs.Types.{ValueType, Scalar, Range, Domain, Array, Promoted, Tuple, Locale, AllLocales, Cell, has, is_int}
 use Rattle.dpl_rules.specs.Verdicts.{owed}
 use Rattle.dpl_rules.specs.Breaches.{least_from}
 use Rattle.dpl_rules.specs.Sights.{Declared, Scope, Scopes, find, declared_here, enter, add}
-use Rattle.dpl_rules.specs.Loops.{LoopWord, each_once, add_variables, variables_of, in_loop}
+use Rattle.dpl_rules.specs.Loops.{each_once, add_variables, variables_of, in_loop}
 use Rattle.dpl_rules.proofs.Admission.{first_empty, second_empty}
 use Rattle.dpl_words.specs.Words.{IntLeaf}
 use Rattle.dpl_memory.specs.Memory.{VariableKind, PlainKind, TupleKind}

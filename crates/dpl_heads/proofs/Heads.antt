@@ -5,7 +5,7 @@ use Rattle.std.specs.Prelude.{nat_lt, ◌&&◌, ◌||◌, if◌then◌else◌}
 use Rattle.std.proofs.lemmas.Bool.Decides.{nat_tests}
 use Rattle.dpl_syntax.specs.declared.refusal.Breach.{Breach}
 use Rattle.dpl_syntax.specs.declared.refusal.Code.TheVariants.{WrongType, WrongRank}
-use Rattle.dpl_language.specs.Tree.{Placed, AfterComma, ExprTree, Number, TruthWord, Named, LocalesWord, LocaleCount, HereWord, Grouped, DomainLiteral, Prefixed, Reduced, Chain, Postfixed, ItemTree, One, RangeItem, VariablesTree, OneVariable, ManyVariables}
+use Rattle.dpl_language.specs.Tree.{Placed, AfterComma, ExprTree, Number, TruthWord, Named, LocalesWord, LocaleCount, HereWord, Grouped, DomainLiteral, Prefixed, Reduced, Chain, Postfixed, ItemTree, One, RangeItem, VariablesTree, OneVariable, ManyVariables, LoopWord}
 use Rattle.dpl_language.specs.Names.{Text}
 use Rattle.dpl_tree.specs.declared.statement.NextName.{NextName}
 use Rattle.dpl_rules.specs.Types.{ValueType, Scalar, Range, Domain, Array, Promoted, Tuple, Locale, AllLocales, Cell, an_int, has, is_int, is_range, is_domain}
@@ -14,7 +14,7 @@ use Rattle.dpl_rules.specs.Places.{first_of_item, first_of_variables}
 use Rattle.dpl_rules.specs.Breaches.{least_from}
 use Rattle.dpl_rules.specs.Sights.{Scopes}
 use Rattle.dpl_rules.specs.Expressions.{bare_locales, locales_or, none_where, type_of, expr_breaches, item_type, item_breaches}
-use Rattle.dpl_rules.specs.Loops.{LoopWord, over_domains, over_locales, runs_over, fits_variables, variable_type, typed_variable, header_of, over_type, over_breaches}
+use Rattle.dpl_rules.specs.Loops.{over_domains, over_locales, runs_over, fits_variables, variable_type, typed_variable, header_of, over_type, over_breaches}
 use Rattle.dpl_sound.proofs.Given.{both_so}
 use Rattle.dpl_sound.proofs.Known.{item_type-known}
 use Rattle.dpl_lowered.specs.LoweredExpressions.{Once}

@@ -1,5 +1,6 @@
 pub mod Known
 pub mod Conditions
+pub mod Bare
 pub mod Heads
 pub mod Once
 pub mod Opened

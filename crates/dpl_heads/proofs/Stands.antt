@@ -4,14 +4,14 @@ use Rattle.std.proofs.Common.{◌≡◌, Bor, List, Option, Some, None, sym, ap,
 use Rattle.std.proofs.lemmas.Option.{none-some}
 use Rattle.std.specs.Prelude.{option_map}
 use Rattle.dpl_syntax.specs.declared.place.Place.{Place}
-use Rattle.dpl_language.specs.Tree.{Op, ExprTree, ItemTree, VariablesTree, OneVariable, ManyVariables, WithTree, If, While, For, Forall, Body, Else}
+use Rattle.dpl_language.specs.Tree.{Op, ExprTree, ItemTree, VariablesTree, OneVariable, ManyVariables, WithTree, If, Headed, Loop, Body, Else, WhileWord, ForWord, ForallWord}
 use Rattle.dpl_language.specs.Names.{Text}
 use Rattle.dpl_language.specs.Phrases.{intents_of}
 use Rattle.dpl_agreement.specs.Renamed.{renamed_with, renamed_intents}
 use Rattle.dpl_agreement.proofs.RenamedParts.{intents_of-renamed}
 use Rattle.dpl_rules.specs.Types.{ValueType}
 use Rattle.dpl_rules.specs.Sights.{Scopes, enter}
-use Rattle.dpl_rules.specs.Loops.{ForWord, ForallWord, in_loop}
+use Rattle.dpl_rules.specs.Loops.{in_loop}
 use Rattle.dpl_sound.proofs.Given.{some-same}
 use Rattle.dpl_lowered.specs.Shapes.{nowhere}
 use Rattle.dpl_lowered.specs.LoweredExpressions.{Once}
@@ -45,11 +45,11 @@ if-stands ss at e body second condition b o s is turns other made =
 
 pub while-stands : (ss : Scopes) (at spot : Place) (e : ExprTree Text) (body : Body Text) (condition : Option (Bor BoolExpr)) (b : Body Variable) (s : Step)
     → spot ≡ at → IsTruth (leaves_of ss Once e) condition → body_leaves (enter ss) body ≡ b
-    → ((x : ExprTree Variable) → IsTruth x condition → step_view s ≡ While spot x b) → stmt_leaves ss (While at e body) ≡ step_view s
+    → ((x : ExprTree Variable) → IsTruth x condition → step_view s ≡ Headed WhileWord spot x b) → stmt_leaves ss (Headed WhileWord at e body) ≡ step_view s
 while-stands ss at spot e body condition b s near is turns made =
-    ap (λ x. While at x (body_leaves (enter ss) body)) (expr-leaves ss Once e)
-    ∙ ap (While at (leaves_of ss Once e)) turns
-    ∙ ap (λ p. While p (leaves_of ss Once e) b) (sym near)
+    ap (λ x. Headed WhileWord at x (body_leaves (enter ss) body)) (expr-leaves ss Once e)
+    ∙ ap (Headed WhileWord at (leaves_of ss Once e)) turns
+    ∙ ap (λ p. Headed WhileWord p (leaves_of ss Once e) b) (sym near)
     ∙ sym (made (leaves_of ss Once e) is)
 
 -- ---- the variables of a loop over a range are one, an int
@@ -81,14 +81,14 @@ module _ (ss : Scopes) (at word spot : Place) (xs : VariablesTree Text) (item : 
   fitting = names-fit xs t o n (enter ss) run.fits opened
 
   pub for-stands : t ≡ loop_type ss ForWord xs item → body_leaves (in_loop ss ForWord xs item) body ≡ b
-      → (FitsNames o n → step_view s ≡ For spot (names_view n) nowhere (over_item o) b) → stmt_leaves ss (For at xs word item body) ≡ step_view s
+      → (FitsNames o n → step_view s ≡ Loop ForWord spot (names_view n) nowhere (over_item o) None b) → stmt_leaves ss (Loop ForWord at xs word item None body) ≡ step_view s
   for-stands typed turns made =
       let turning = body_leaves (in_loop ss ForWord xs item) body in
-      ap (λ i. For at (variables_leaves (loop_type ss ForWord xs item) (enter ss) xs) nowhere i turning) (items-leaves ss Once item ∙ over-same)
-      ∙ ap (λ (t : Option ValueType). For at (variables_leaves t (enter ss) xs) nowhere (over_item o) turning) (sym typed)
-      ∙ ap (λ ys. For at ys nowhere (over_item o) turning) (sym opened)
-      ∙ ap (λ p. For p (names_view n) nowhere (over_item o) turning) (sym near)
-      ∙ ap (For spot (names_view n) nowhere (over_item o)) turns
+      ap (λ i. Loop ForWord at (variables_leaves (loop_type ss ForWord xs item) (enter ss) xs) nowhere i None turning) (items-leaves ss Once item ∙ over-same)
+      ∙ ap (λ (t : Option ValueType). Loop ForWord at (variables_leaves t (enter ss) xs) nowhere (over_item o) None turning) (sym typed)
+      ∙ ap (λ ys. Loop ForWord at ys nowhere (over_item o) None turning) (sym opened)
+      ∙ ap (λ p. Loop ForWord p (names_view n) nowhere (over_item o) None turning) (sym near)
+      ∙ ap (Loop ForWord spot (names_view n) nowhere (over_item o) None) turns
       ∙ sym (made fitting)
 
   -- with reduce variables
@@ -98,14 +98,14 @@ module _ (ss : Scopes) (at word spot : Place) (xs : VariablesTree Text) (item : 
         intents_of-renamed variable_of (option_map (renamed_with (bound_in ss)) w) ∙ ap (renamed_intents variable_of) (intents_of-renamed (bound_in ss) w) ∙ sym kept
 
     pub forall-stands : t ≡ loop_type ss ForallWord xs item → body_leaves (in_loop ss ForallWord xs item) body ≡ b
-        → (FitsNames o n → step_view s ≡ Forall spot (names_view n) nowhere (over_item o) (with_intents is) b) → stmt_leaves ss (Forall at xs word item w body) ≡ step_view s
+        → (FitsNames o n → step_view s ≡ Loop ForallWord spot (names_view n) nowhere (over_item o) (with_intents is) b) → stmt_leaves ss (Loop ForallWord at xs word item w body) ≡ step_view s
     forall-stands typed turns made =
         let turning = body_leaves (in_loop ss ForallWord xs item) body in
         let reduced = intents_of (option_map (renamed_with variable_of) (option_map (renamed_with (bound_in ss)) w)) in
-        ap (λ i. Forall at (variables_leaves (loop_type ss ForallWord xs item) (enter ss) xs) nowhere i (with_intents reduced) turning) (items-leaves ss Once item ∙ over-same)
-        ∙ ap (λ (t : Option ValueType). Forall at (variables_leaves t (enter ss) xs) nowhere (over_item o) (with_intents reduced) turning) (sym typed)
-        ∙ ap (λ ys. Forall at ys nowhere (over_item o) (with_intents reduced) turning) (sym opened)
-        ∙ ap (λ p. Forall p (names_view n) nowhere (over_item o) (with_intents reduced) turning) (sym near)
-        ∙ ap (λ ls. Forall spot (names_view n) nowhere (over_item o) (with_intents ls) turning) intents-same
-        ∙ ap (Forall spot (names_view n) nowhere (over_item o) (with_intents is)) turns
+        ap (λ i. Loop ForallWord at (variables_leaves (loop_type ss ForallWord xs item) (enter ss) xs) nowhere i (with_intents reduced) turning) (items-leaves ss Once item ∙ over-same)
+        ∙ ap (λ (t : Option ValueType). Loop ForallWord at (variables_leaves t (enter ss) xs) nowhere (over_item o) (with_intents reduced) turning) (sym typed)
+        ∙ ap (λ ys. Loop ForallWord at ys nowhere (over_item o) (with_intents reduced) turning) (sym opened)
+        ∙ ap (λ p. Loop ForallWord p (names_view n) nowhere (over_item o) (with_intents reduced) turning) (sym near)
+        ∙ ap (λ ls. Loop ForallWord spot (names_view n) nowhere (over_item o) (with_intents ls) turning) intents-same
+        ∙ ap (Loop ForallWord spot (names_view n) nowhere (over_item o) (with_intents is)) turns
         ∙ sym (made fitting)

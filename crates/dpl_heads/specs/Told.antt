@@ -2,7 +2,7 @@
 -- Each is a part of a rule of dpl_rules.
 use Rattle.std.specs.Prelude.{◌≡◌, Bool, List, ◌++◌, Option}
 use Rattle.dpl_syntax.specs.declared.refusal.Breach.{Breach}
-use Rattle.dpl_language.specs.Tree.{ExprTree, ItemTree, VariablesTree}
+use Rattle.dpl_language.specs.Tree.{ExprTree, ItemTree, VariablesTree, LoopWord, ForWord, ForallWord, CoforallWord}
 use Rattle.dpl_language.specs.Names.{Text}
 use Rattle.dpl_rules.specs.Types.{ValueType}
 use Rattle.dpl_rules.specs.Breaches.{least_from}
@@ -10,7 +10,7 @@ use Rattle.dpl_rules.specs.Verdicts.{owed_type}
 use Rattle.dpl_rules.specs.Places.{first_of}
 use Rattle.dpl_rules.specs.Sights.{Scopes, Reducing, Sight}
 use Rattle.dpl_rules.specs.Expressions.{type_of, expr_breaches}
-use Rattle.dpl_rules.specs.Loops.{LoopWord, ForWord, ForallWord, CoforallWord, over_type, over_breaches, header_of}
+use Rattle.dpl_rules.specs.Loops.{over_type, over_breaches, header_of}
 use Rattle.dpl_scopes.specs.Types.{of_type}
 use Rattle.dpl_types.specs.declared.want.Want.{Want}
 use Rattle.dpl_types.specs.Wants.{takes}

@@ -5,29 +5,28 @@ ghost use Rattle.std.specs.Prelude.{◌≡◌, None, IfOk, OnOk};
 ghost use Rattle.dpl_lowered.specs.LoweredExpressions.{Once};
 ghost use Rattle.dpl_rules.specs.Breaches.{least_from};
 ghost use Rattle.dpl_rules.specs.Places.{first_of_variables as first_of_tree};
-ghost use Rattle.dpl_rules.specs.Deeds.{expr_deeds, item_deeds};
-ghost use Rattle.dpl_rules.specs.Expressions.{bare_locales, locales_or, none_where, type_of, expr_breaches};
+ghost use Rattle.dpl_rules.specs.Deeds.{item_deeds};
 ghost use Rattle.dpl_rules.specs.Loops.{over_domains as over_domains_of, over_locales as over_locales_of, runs_over as runs_over_of, turn_rank as turn_rank_of};
 ghost use Rattle.dpl_rules.specs.Loops.{one_type as one_type_of, fits_variables, typed_variable, header_of as header_of_loop, over_type, over_breaches};
 ghost use Rattle.dpl_scopes.specs.Types.{type_view, of_type};
-ghost use Rattle.dpl_tree.specs.View.{expr_view, item_view};
+ghost use Rattle.dpl_tree.specs.View.{item_view};
 ghost use Rattle.dpl_tree.specs.Statements.{variables_view};
 ghost use Rattle.dpl_deeds.specs.View.{Adds};
-ghost use Rattle.dpl_typed.specs.Lowered.{leaves_of, item_leaves};
-ghost use Rattle.dpl_typed.specs.Stands.{StandsFor, StandsForItem};
+ghost use Rattle.dpl_typed.specs.Lowered.{item_leaves};
+ghost use Rattle.dpl_typed.specs.Stands.{StandsForItem};
 ghost use Rattle.dpl_typed.specs.Told.{Tells};
-ghost use Rattle.dpl_typed.specs.Where.{WhereSimple, WhereSimpleItem};
+ghost use Rattle.dpl_typed.specs.Where.{WhereSimpleItem};
 ghost use Rattle.dpl_bound.specs.Bounds.{loop_type};
 ghost use Rattle.dpl_heads.specs.Plain.{IsPlainHead};
 ghost use Rattle.dpl_heads.specs.Made.{IsIterated, IsRun};
 ghost use Rattle.dpl_heads.specs.Told.{word_view, head_told, TellsHead};
 
 use dpl_deeds::Deed;
-use dpl_elaborator::expression::{expr, item};
+use dpl_elaborator::expression::{base, item};
 use dpl_nodes::{DomainExpr, RangeExpr};
 use dpl_scopes::{Scopes, ValueType};
 use dpl_syntax::{Breach, Code, Place};
-use dpl_tree::{Arena, Expr, Item, ScalarKind, Variables};
+use dpl_tree::{Arena, Item, ScalarKind, Variables};
 use dpl_typed::found::type_found;
 use dpl_typed::{Made, Typed};
 use dpl_types::place::first_of_item;
@@ -138,36 +137,8 @@ fn first_of_variables(variables: &Variables<'_>) -> Place
     }
 }
 
-// An expression, or the word `Locales` by itself.
-fn over_expr<'t>(
-    arena: Arena<'t>,
-    scopes: &Scopes<'t>,
-    e: &Expr<'_>,
-    deeds: &mut Vec<Deed<'t>>,
-    first: &mut Option<Breach>,
-) -> Made<'t>
-    ensures told { IfOk result (λ r. Tells (locales_or (bare_locales (expr_view e.now)) (type_of scopes.now (expr_view e.now)))
-        (none_where (bare_locales (expr_view e.now)) (expr_breaches scopes.now (expr_view e.now))) r first.old first.new) }
-    ensures node { IfOk result (λ r. WhereSimple scopes.now (expr_view e.now) (StandsFor r (λ m. leaves_of scopes.now m (expr_view e.now)))) }
-    ensures deeds { OnOk result (Adds (expr_deeds scopes.now (expr_view e.now)) deeds.old.items deeds.new.items) }
-{
-    match e {
-        Expr::Locales(_) => Ok(Some(Typed::AllLocales)),
-        Expr::Number(_, _)
-        | Expr::Truth(_, _)
-        | Expr::Named(_)
-        | Expr::LocaleCount(_)
-        | Expr::Here(_)
-        | Expr::Grouped { .. }
-        | Expr::Domain { .. }
-        | Expr::Prefixed { .. }
-        | Expr::Reduced(_)
-        | Expr::Chain(_)
-        | Expr::Postfixed(_) => expr(arena, scopes, e, deeds, first),
-    }
-}
-
 // What a loop runs over: the word `Locales` by itself, or an item.
+#[tactic(auto, using(crate::proofs::Bare::base_alone))]
 fn over<'t>(
     arena: Arena<'t>,
     scopes: &Scopes<'t>,
@@ -182,7 +153,7 @@ fn over<'t>(
     ensures deeds { OnOk result (Adds (item_deeds scopes.now (item_view written.now)) deeds.old.items deeds.new.items) }
 {
     match written {
-        Item::One(e) => over_expr(arena, scopes, e, deeds, first),
+        Item::One(e) => base(arena, scopes, e, &[], deeds, first),
         Item::Range(_) => item(arena, scopes, written, deeds, first),
     }
 }

@@ -1,8 +1,8 @@
 // The steps of statements with bodies, of their parts: `if`, `while`, and loops over a range with one variable or over a domain.
 // Where the parts don't fit, `Step::Nothing` stands for the step.
 
-ghost use Rattle.std.specs.Prelude.{◌≡◌, map};
-ghost use Rattle.dpl_language.specs.Tree.{ExprTree, If as IfTree, While as WhileTree, For as ForTree, Forall as ForallTree};
+ghost use Rattle.std.specs.Prelude.{◌≡◌, map, None};
+ghost use Rattle.dpl_language.specs.Tree.{ExprTree, WhileWord, ForWord, ForallWord, If as IfTree, Headed, Loop};
 ghost use Rattle.dpl_lowered.specs.Shapes.{nowhere};
 ghost use Rattle.dpl_lowered.specs.LoweredStatements.{with_intents};
 ghost use Rattle.dpl_memory.specs.Memory.{Variable};
@@ -37,7 +37,7 @@ pub fn while_step<'t>(
     condition: Option<&'t BoolExpr<'t>>,
     body: &'t [Step<'t>],
 ) -> Step<'t>
-    ensures { (e : ExprTree Variable) → IsTruth e condition.entry → step_view result ≡ WhileTree at.now e (listed (steps_of body.now)) }
+    ensures { (e : ExprTree Variable) → IsTruth e condition.entry → step_view result ≡ Headed WhileWord at.now e (listed (steps_of body.now)) }
 {
     match condition {
         None => Step::Nothing,
@@ -57,7 +57,7 @@ pub fn for_step<'t>(
     body: &'t [Step<'t>],
 ) -> Step<'t>
     ensures { FitsNames over.entry names.entry
-        → step_view result ≡ ForTree at.now (names_view names.entry) nowhere (over_item over.entry) (listed (steps_of body.now)) }
+        → step_view result ≡ Loop ForWord at.now (names_view names.entry) nowhere (over_item over.entry) None (listed (steps_of body.now)) }
 {
     match over {
         Iterable::Range(range) => match names {
@@ -88,7 +88,7 @@ pub fn forall_step<'t>(
     body: &'t [Step<'t>],
 ) -> Step<'t>
     ensures { FitsNames over.entry names.entry
-        → step_view result ≡ ForallTree at.now (names_view names.entry) nowhere (over_item over.entry)
+        → step_view result ≡ Loop ForallWord at.now (names_view names.entry) nowhere (over_item over.entry)
         (with_intents (map intent_view changed.now.reduced.now)) (listed (steps_of body.now)) }
 {
     match over {

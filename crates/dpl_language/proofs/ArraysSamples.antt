@@ -1,7 +1,7 @@
 -- The sample programs of `Arrays`, as trees with the places of their tokens; each stands behind its text.
 -- A script spelled them, which nobody has to trust: a tree that isn't its text's shows in its places.
 use Rattle.std.specs.Prelude.{ℕ, List, [], ◌∷◌, pos, Some, None, true, false, codes}
-use Rattle.dpl_language.specs.Tree.{Minus, Add, Subtract, Multiply, Less, Sum, Product, AllOf, AnyOf, BitAnd, BitOr, BitXor, Least, Greatest, Set, SetAdd, SetDivide, IntKind, BoolKind, Closed, Size, Low, DomainOf, Number, TruthWord, Named, Grouped, DomainLiteral, Prefixed, Reduced, Chain, Postfixed, One, RangeItem, NoStride, By, NoLinks, Link, NoPosts, Post, Brackets, Dotted, Plainly, Dim, FirstItem, NoItems, NextItem, FirstExpr, NoExprs, NextExpr, StartExpr, BlockMap, CyclicMap, DomainType, ArrayType, ItemInit, TextArgument, ExprArgument, OneVariable, ManyVariables, Square, Round, Whole, Element, Declare, Assigned, Write, Block, Forall, WordBody, BlockBody, NoStmts, Then, ProgramTree}
+use Rattle.dpl_language.specs.Tree.{Minus, Add, Subtract, Multiply, Less, Sum, Product, AllOf, AnyOf, BitAnd, BitOr, BitXor, Least, Greatest, Set, SetAdd, SetDivide, IntKind, BoolKind, Closed, Size, Low, DomainOf, Number, TruthWord, Named, Grouped, DomainLiteral, Prefixed, Reduced, Chain, Postfixed, One, RangeItem, NoStride, By, NoLinks, Link, NoPosts, Post, Brackets, Dotted, Plainly, Dim, FirstItem, NoItems, NextItem, FirstExpr, NoExprs, NextExpr, StartExpr, BlockMap, CyclicMap, DomainType, ArrayType, ItemInit, TextArgument, ExprArgument, OneVariable, ManyVariables, Square, Round, Whole, Element, Declare, Assigned, Write, Block, Loop, WordBody, BlockBody, NoStmts, Then, ProgramTree, ForallWord}
 use Rattle.dpl_language.proofs.Spelled.{at, name, after, argument, array_type, block_map, cyclic_map, declared, domain_type, initial, listed, mapped, sign, typed, written_line}
 
 -- var A: [1..0] int; writeln(max reduce A);
@@ -31,7 +31,7 @@ squares_in_blocks =
           1)) (at 1 54) Closed (Number (at 1 56) (pos 8)) NoStride) NoItems) (at 1 57))) (at 1 58))))))))
           (at 1 59))) (Then (Declare (declared None (at 1 61) false (name (codes "A") (at 1 65)) (Some
           (typed (at 1 66) (ArrayType (array_type (at 1 68) (FirstItem (One (Named (name (codes "D") (at 1
-          69)))) NoItems) (at 1 70) (at 1 72) IntKind)))) None (at 1 75))) (Then (Forall (at 1 77)
+          69)))) NoItems) (at 1 70) (at 1 72) IntKind)))) None (at 1 75))) (Then (Loop ForallWord (at 1 77)
           (OneVariable (name (codes "i") (at 1 84))) (at 1 86) (One (Named (name (codes "D") (at 1 89))))
           None (WordBody (at 1 91) (Assigned (Element (name (codes "A") (at 1 94)) Square (at 1 95)
           (FirstExpr (Named (name (codes "i") (at 1 96))) NoExprs) (at 1 97)) (sign (at 1 99) Set (at 1
@@ -64,14 +64,14 @@ plate_of_neighbours =
           (at 1 99) IntKind)))) None (at 1 102))) (Then (Declare (declared None (at 1 104) false (name
           (codes "B") (at 1 108)) (Some (typed (at 1 109) (ArrayType (array_type (at 1 111) (FirstItem
           (One (Named (name (codes "D") (at 1 112)))) NoItems) (at 1 113) (at 1 115) IntKind)))) None (at
-          1 118))) (Then (Forall (at 1 120) (ManyVariables (at 1 127) (listed (name (codes "i") (at 1
+          1 118))) (Then (Loop ForallWord (at 1 120) (ManyVariables (at 1 127) (listed (name (codes "i") (at 1
           128)) (after (at 1 129) (name (codes "j") (at 1 130)) ∷ [])) (at 1 131)) (at 1 133) (One (Named
           (name (codes "D") (at 1 136)))) None (WordBody (at 1 138) (Assigned (Element (name (codes "A")
           (at 1 141)) Square (at 1 142) (FirstExpr (Named (name (codes "i") (at 1 143))) (NextExpr (at 1
           144) (Named (name (codes "j") (at 1 145))) NoExprs)) (at 1 146)) (sign (at 1 148) Set (at 1
           148)) (One (Chain (Chain (Number (at 1 150) (pos 10)) (Link (at 1 152) Multiply (Named (name
           (codes "i") (at 1 153))) NoLinks)) (Link (at 1 155) Add (Named (name (codes "j") (at 1 157)))
-          NoLinks))) (at 1 158)))) (Then (Forall (at 1 160) (ManyVariables (at 1 167) (listed (name (codes
+          NoLinks))) (at 1 158)))) (Then (Loop ForallWord (at 1 160) (ManyVariables (at 1 167) (listed (name (codes
           "i") (at 1 168)) (after (at 1 169) (name (codes "j") (at 1 170)) ∷ [])) (at 1 171)) (at 1 173)
           (One (Postfixed (Named (name (codes "D") (at 1 176))) (Post (Brackets (at 1 177) (FirstItem
           (RangeItem (Number (at 1 178) (pos 1)) (at 1 179) Closed (Number (at 1 181) (pos 3)) NoStride)
@@ -108,7 +108,7 @@ domain_assigned =
           (Number (at 1 10) (pos 1)) (at 1 11) Closed (Number (at 1 13) (pos 4)) NoStride) NoItems) (at 1
           14))) None))) (at 1 15))) (Then (Declare (declared None (at 1 17) false (name (codes "A") (at 1
           21)) (Some (typed (at 1 22) (ArrayType (array_type (at 1 24) (FirstItem (One (Named (name (codes
-          "D") (at 1 25)))) NoItems) (at 1 26) (at 1 28) IntKind)))) None (at 1 31))) (Then (Forall (at 1
+          "D") (at 1 25)))) NoItems) (at 1 26) (at 1 28) IntKind)))) None (at 1 31))) (Then (Loop ForallWord (at 1
           33) (OneVariable (name (codes "i") (at 1 40))) (at 1 42) (One (Named (name (codes "D") (at 1
           45)))) None (WordBody (at 1 47) (Assigned (Element (name (codes "A") (at 1 50)) Square (at 1 51)
           (FirstExpr (Named (name (codes "i") (at 1 52))) NoExprs) (at 1 53)) (sign (at 1 55) Set (at 1
@@ -131,7 +131,7 @@ three_planes =
           (pos 1)) (at 1 10) Closed (Number (at 1 12) (pos 2)) NoStride) (NextItem (at 1 13) (RangeItem
           (Number (at 1 15) (pos 1)) (at 1 16) Closed (Number (at 1 18) (pos 2)) NoStride) (NextItem (at 1
           19) (RangeItem (Number (at 1 21) (pos 1)) (at 1 22) Closed (Number (at 1 24) (pos 2)) NoStride)
-          NoItems))) (at 1 25) (at 1 27) IntKind)))) None (at 1 30))) (Then (Forall (at 1 32)
+          NoItems))) (at 1 25) (at 1 27) IntKind)))) None (at 1 30))) (Then (Loop ForallWord (at 1 32)
           (ManyVariables (at 1 39) (listed (name (codes "i") (at 1 40)) (after (at 1 41) (name (codes "j")
           (at 1 42)) ∷ after (at 1 43) (name (codes "k") (at 1 44)) ∷ [])) (at 1 45)) (at 1 47) (One
           (Postfixed (Named (name (codes "A") (at 1 50))) (Post (Dotted (at 1 51) (Plainly (at 1 52)
@@ -210,7 +210,7 @@ falling_array =
           5)) (Some (typed (at 1 6) (ArrayType (array_type (at 1 8) (FirstItem (RangeItem (Number (at 1 9)
           (pos 1)) (at 1 10) Closed (Number (at 1 12) (pos 3)) (By (at 1 14) (Prefixed (at 1 17) Minus
           (Number (at 1 18) (pos 1))))) NoItems) (at 1 19) (at 1 21) IntKind)))) None (at 1 24))) (Then
-          (Forall (at 1 26) (OneVariable (name (codes "i") (at 1 33))) (at 1 35) (One (Postfixed (Named
+          (Loop ForallWord (at 1 26) (OneVariable (name (codes "i") (at 1 33))) (at 1 35) (One (Postfixed (Named
           (name (codes "A") (at 1 38))) (Post (Dotted (at 1 39) (Plainly (at 1 40) DomainOf)) NoPosts)))
           None (WordBody (at 1 47) (Assigned (Element (name (codes "A") (at 1 50)) Square (at 1 51)
           (FirstExpr (Named (name (codes "i") (at 1 52))) NoExprs) (at 1 53)) (sign (at 1 55) Set (at 1
@@ -229,7 +229,7 @@ tuples =
           5)) (Some (typed (at 1 6) (ArrayType (array_type (at 1 8) (FirstItem (RangeItem (Number (at 1 9)
           (pos 1)) (at 1 10) Closed (Number (at 1 12) (pos 2)) NoStride) (NextItem (at 1 13) (RangeItem
           (Number (at 1 15) (pos 1)) (at 1 16) Closed (Number (at 1 18) (pos 2)) NoStride) NoItems)) (at 1
-          19) (at 1 21) IntKind)))) None (at 1 24))) (Then (Forall (at 1 26) (OneVariable (name (codes
+          19) (at 1 21) IntKind)))) None (at 1 24))) (Then (Loop ForallWord (at 1 26) (OneVariable (name (codes
           "t") (at 1 33))) (at 1 35) (One (Postfixed (Named (name (codes "A") (at 1 38))) (Post (Dotted
           (at 1 39) (Plainly (at 1 40) DomainOf)) NoPosts))) None (WordBody (at 1 47) (Assigned (Element
           (name (codes "A") (at 1 50)) Square (at 1 51) (FirstExpr (Named (name (codes "t") (at 1 52)))
@@ -302,7 +302,7 @@ promoted_difference =
           (declared None (at 1 35) false (name (codes "B") (at 1 39)) (Some (typed (at 1 40) (ArrayType
           (array_type (at 1 42) (FirstItem (One (Named (name (codes "D") (at 1 43)))) NoItems) (at 1 44)
           (at 1 46) IntKind)))) (Some (initial (at 1 50) (ItemInit (One (Number (at 1 52) (pos 3)))
-          None))) (at 1 53))) (Then (Forall (at 1 55) (OneVariable (name (codes "i") (at 1 62))) (at 1 64)
+          None))) (at 1 53))) (Then (Loop ForallWord (at 1 55) (OneVariable (name (codes "i") (at 1 62))) (at 1 64)
           (One (Named (name (codes "D") (at 1 67)))) None (WordBody (at 1 69) (Assigned (Element (name
           (codes "A") (at 1 72)) Square (at 1 73) (FirstExpr (Named (name (codes "i") (at 1 74))) NoExprs)
           (at 1 75)) (sign (at 1 77) Set (at 1 77)) (One (Named (name (codes "i") (at 1 79)))) (at 1
@@ -435,11 +435,11 @@ shifted =
           "D") (at 1 27)))) NoItems) (at 1 28) (at 1 30) IntKind)))) None (at 1 33))) (Then (Declare
           (declared None (at 1 35) false (name (codes "B") (at 1 39)) (Some (typed (at 1 40) (ArrayType
           (array_type (at 1 42) (FirstItem (One (Named (name (codes "D") (at 1 43)))) NoItems) (at 1 44)
-          (at 1 46) IntKind)))) None (at 1 49))) (Then (Forall (at 1 51) (OneVariable (name (codes "i")
+          (at 1 46) IntKind)))) None (at 1 49))) (Then (Loop ForallWord (at 1 51) (OneVariable (name (codes "i")
           (at 1 58))) (at 1 60) (One (Named (name (codes "D") (at 1 63)))) None (WordBody (at 1 65)
           (Assigned (Element (name (codes "A") (at 1 68)) Square (at 1 69) (FirstExpr (Named (name (codes
           "i") (at 1 70))) NoExprs) (at 1 71)) (sign (at 1 73) Set (at 1 73)) (One (Named (name (codes
-          "i") (at 1 75)))) (at 1 76)))) (Then (Forall (at 1 78) (OneVariable (name (codes "i") (at 1
+          "i") (at 1 75)))) (at 1 76)))) (Then (Loop ForallWord (at 1 78) (OneVariable (name (codes "i") (at 1
           85))) (at 1 87) (One (Postfixed (Named (name (codes "D") (at 1 90))) (Post (Brackets (at 1 91)
           (FirstItem (RangeItem (Number (at 1 92) (pos 2)) (at 1 93) Closed (Number (at 1 95) (pos 7))
           NoStride) NoItems) (at 1 96)) NoPosts))) None (WordBody (at 1 98) (Assigned (Element (name
@@ -471,11 +471,11 @@ mirrored =
           "D") (at 1 27)))) NoItems) (at 1 28) (at 1 30) IntKind)))) None (at 1 33))) (Then (Declare
           (declared None (at 1 35) false (name (codes "B") (at 1 39)) (Some (typed (at 1 40) (ArrayType
           (array_type (at 1 42) (FirstItem (One (Named (name (codes "D") (at 1 43)))) NoItems) (at 1 44)
-          (at 1 46) IntKind)))) None (at 1 49))) (Then (Forall (at 1 51) (OneVariable (name (codes "i")
+          (at 1 46) IntKind)))) None (at 1 49))) (Then (Loop ForallWord (at 1 51) (OneVariable (name (codes "i")
           (at 1 58))) (at 1 60) (One (Named (name (codes "D") (at 1 63)))) None (WordBody (at 1 65)
           (Assigned (Element (name (codes "A") (at 1 68)) Square (at 1 69) (FirstExpr (Named (name (codes
           "i") (at 1 70))) NoExprs) (at 1 71)) (sign (at 1 73) Set (at 1 73)) (One (Named (name (codes
-          "i") (at 1 75)))) (at 1 76)))) (Then (Forall (at 1 78) (OneVariable (name (codes "i") (at 1
+          "i") (at 1 75)))) (at 1 76)))) (Then (Loop ForallWord (at 1 78) (OneVariable (name (codes "i") (at 1
           85))) (at 1 87) (One (Postfixed (Named (name (codes "D") (at 1 90))) (Post (Brackets (at 1 91)
           (FirstItem (RangeItem (Number (at 1 92) (pos 2)) (at 1 93) Closed (Number (at 1 95) (pos 7))
           NoStride) NoItems) (at 1 96)) NoPosts))) None (WordBody (at 1 98) (Assigned (Element (name
@@ -504,7 +504,7 @@ two_roots =
           "D") (at 1 45)))) NoItems) (at 1 46) (at 1 48) IntKind)))) None (at 1 51))) (Then (Declare
           (declared None (at 1 53) false (name (codes "B") (at 1 57)) (Some (typed (at 1 58) (ArrayType
           (array_type (at 1 60) (FirstItem (One (Named (name (codes "E") (at 1 61)))) NoItems) (at 1 62)
-          (at 1 64) IntKind)))) None (at 1 67))) (Then (Forall (at 1 69) (OneVariable (name (codes "i")
+          (at 1 64) IntKind)))) None (at 1 67))) (Then (Loop ForallWord (at 1 69) (OneVariable (name (codes "i")
           (at 1 76))) (at 1 78) (One (Named (name (codes "D") (at 1 81)))) None (BlockBody (at 1 83) (Then
           (Assigned (Element (name (codes "A") (at 1 85)) Square (at 1 86) (FirstExpr (Named (name (codes
           "i") (at 1 87))) NoExprs) (at 1 88)) (sign (at 1 90) Set (at 1 90)) (One (Named (name (codes
@@ -573,7 +573,7 @@ changed_domain =
           NoPosts))) None))) (at 1 107))) (Then (Assigned (Whole (name (codes "D") (at 1 109))) (sign (at
           1 111) Set (at 1 111)) (One (DomainLiteral (at 1 113) (FirstItem (RangeItem (Number (at 1 114)
           (pos 3)) (at 1 115) Closed (Number (at 1 117) (pos 10)) NoStride) NoItems) (at 1 119))) (at 1
-          120)) (Then (Forall (at 1 122) (OneVariable (name (codes "i") (at 1 129))) (at 1 131) (One
+          120)) (Then (Loop ForallWord (at 1 122) (OneVariable (name (codes "i") (at 1 129))) (at 1 131) (One
           (Named (name (codes "D") (at 1 134)))) None (WordBody (at 1 136) (Assigned (Element (name (codes
           "A") (at 1 139)) Square (at 1 140) (FirstExpr (Named (name (codes "i") (at 1 141))) NoExprs) (at
           1 142)) (sign (at 1 144) SetAdd (at 1 144)) (One (Named (name (codes "i") (at 1 147)))) (at 1

@@ -1,7 +1,7 @@
 -- The sample programs of `Faults`, as trees with the places of their tokens; each stands behind its text.
 -- A script spelled them, which nobody has to trust: a tree that isn't its text's shows in its places.
 use Rattle.std.specs.Prelude.{ℕ, List, [], ◌∷◌, pos, Some, None, true, false, codes}
-use Rattle.dpl_language.specs.Tree.{Minus, Add, Subtract, Multiply, Divide, Remainder, Greater, Sum, Set, SetAdd, SetDivide, SetRemainder, IntKind, Closed, HalfOpen, Counted, Size, First, Number, Named, Grouped, DomainLiteral, Prefixed, Reduced, Chain, Postfixed, One, RangeItem, NoStride, By, NoLinks, Link, NoPosts, Post, Brackets, Rounds, Dotted, Plainly, Expand, FirstItem, NoItems, NextItem, FirstExpr, NoExprs, NextExpr, StartTuple, BlockMap, BlockCyclicMap, ScalarType, DomainType, ArrayType, CreateCyclic, ItemInit, CreateInit, ExprArgument, ReduceIntent, OneVariable, ManyVariables, Square, Whole, Element, Nothing, Declare, Assigned, Write, Block, If, For, Forall, WordBody, NoStmts, Then, NoElse, ProgramTree}
+use Rattle.dpl_language.specs.Tree.{Minus, Add, Subtract, Multiply, Divide, Remainder, Greater, Sum, Set, SetAdd, SetDivide, SetRemainder, IntKind, Closed, HalfOpen, Counted, Size, First, Number, Named, Grouped, DomainLiteral, Prefixed, Reduced, Chain, Postfixed, One, RangeItem, NoStride, By, NoLinks, Link, NoPosts, Post, Brackets, Rounds, Dotted, Plainly, Expand, FirstItem, NoItems, NextItem, FirstExpr, NoExprs, NextExpr, StartTuple, BlockMap, BlockCyclicMap, ScalarType, DomainType, ArrayType, CreateCyclic, ItemInit, CreateInit, ExprArgument, ReduceIntent, OneVariable, ManyVariables, Square, Whole, Element, Nothing, Declare, Assigned, Write, Block, If, Loop, WordBody, NoStmts, Then, NoElse, ProgramTree, ForWord, ForallWord}
 use Rattle.dpl_language.proofs.Spelled.{at, name, after, argument, array_type, block_map, declared, domain_type, initial, listed, mapped, sign, typed, with_intents, written_line}
 
 -- const D = {1..8}; var A: [D] int; forall i in D do A[i] = A[i-1];
@@ -14,7 +14,7 @@ neighbour_outside =
           (Number (at 1 12) (pos 1)) (at 1 13) Closed (Number (at 1 15) (pos 8)) NoStride) NoItems) (at 1
           16))) None))) (at 1 17))) (Then (Declare (declared None (at 1 19) false (name (codes "A") (at 1
           23)) (Some (typed (at 1 24) (ArrayType (array_type (at 1 26) (FirstItem (One (Named (name (codes
-          "D") (at 1 27)))) NoItems) (at 1 28) (at 1 30) IntKind)))) None (at 1 33))) (Then (Forall (at 1
+          "D") (at 1 27)))) NoItems) (at 1 28) (at 1 30) IntKind)))) None (at 1 33))) (Then (Loop ForallWord (at 1
           35) (OneVariable (name (codes "i") (at 1 42))) (at 1 44) (One (Named (name (codes "D") (at 1
           47)))) None (WordBody (at 1 49) (Assigned (Element (name (codes "A") (at 1 52)) Square (at 1 53)
           (FirstExpr (Named (name (codes "i") (at 1 54))) NoExprs) (at 1 55)) (sign (at 1 57) Set (at 1
@@ -40,7 +40,7 @@ first_turn_to_fail =
           1)) (at 1 54) Closed (Number (at 1 56) (pos 8)) NoStride) NoItems) (at 1 57))) (at 1 58))))))))
           (at 1 59))) (Then (Declare (declared None (at 2 1) false (name (codes "A") (at 2 5)) (Some
           (typed (at 2 6) (ArrayType (array_type (at 2 8) (FirstItem (One (Named (name (codes "D") (at 2
-          9)))) NoItems) (at 2 10) (at 2 12) IntKind)))) None (at 2 15))) (Then (Forall (at 3 1)
+          9)))) NoItems) (at 2 10) (at 2 12) IntKind)))) None (at 2 15))) (Then (Loop ForallWord (at 3 1)
           (OneVariable (name (codes "i") (at 3 8))) (at 3 10) (One (Named (name (codes "D") (at 3 13))))
           None (WordBody (at 3 15) (Assigned (Element (name (codes "A") (at 4 3)) Square (at 4 4)
           (FirstExpr (Named (name (codes "i") (at 4 5))) NoExprs) (at 4 6)) (sign (at 4 8) Set (at 4 8))
@@ -74,7 +74,7 @@ index_outside =
       stmts = (Then (Declare (declared None (at 1 1) false (name (codes "A") (at 1
           5)) (Some (typed (at 1 6) (ArrayType (array_type (at 1 8) (FirstItem (RangeItem (Number (at 1 9)
           (pos 1)) (at 1 10) Closed (Number (at 1 12) (pos 3)) NoStride) NoItems) (at 1 13) (at 1 15)
-          IntKind)))) None (at 1 18))) (Then (Forall (at 1 20) (OneVariable (name (codes "i") (at 1 27)))
+          IntKind)))) None (at 1 18))) (Then (Loop ForallWord (at 1 20) (OneVariable (name (codes "i") (at 1 27)))
           (at 1 29) (RangeItem (Number (at 1 32) (pos 1)) (at 1 33) Closed (Number (at 1 35) (pos 4))
           NoStride) None (WordBody (at 1 37) (Assigned (Element (name (codes "A") (at 1 40)) Square (at 1
           41) (FirstExpr (Named (name (codes "i") (at 1 42))) NoExprs) (at 1 43)) (sign (at 1 45) Set (at
@@ -126,7 +126,7 @@ divided_scalar =
     record {
       uses = [];
       stmts = (Then (Declare (declared None (at 1 1) false (name (codes "s") (at 1
-          5)) (Some (typed (at 1 6) (ScalarType (at 1 8) IntKind))) None (at 1 11))) (Then (Forall (at 1
+          5)) (Some (typed (at 1 6) (ScalarType (at 1 8) IntKind))) None (at 1 11))) (Then (Loop ForallWord (at 1
           13) (OneVariable (name (codes "i") (at 1 20))) (at 1 22) (RangeItem (Number (at 1 25) (pos 1))
           (at 1 26) Closed (Number (at 1 28) (pos 4)) NoStride) (Some (with_intents (at 1 30) (at 1 35)
           (listed (ReduceIntent (at 1 36) Sum (at 1 38) (name (codes "s") (at 1 45))) []) (at 1 46)))
@@ -167,7 +167,7 @@ first_turn_of_two =
           (at 1 88) Closed (Number (at 1 90) (pos 3)) NoStride) NoItems)) (at 1 91))) None))) (at 1 92)))
           (Then (Declare (declared None (at 2 1) false (name (codes "A") (at 2 5)) (Some (typed (at 2 6)
           (ArrayType (array_type (at 2 8) (FirstItem (One (Named (name (codes "D") (at 2 9)))) NoItems)
-          (at 2 10) (at 2 12) IntKind)))) None (at 2 15))) (Then (Forall (at 3 1) (ManyVariables (at 3 8)
+          (at 2 10) (at 2 12) IntKind)))) None (at 2 15))) (Then (Loop ForallWord (at 3 1) (ManyVariables (at 3 8)
           (listed (name (codes "i") (at 3 9)) (after (at 3 10) (name (codes "j") (at 3 11)) ∷ [])) (at 3
           12)) (at 3 14) (One (Named (name (codes "D") (at 3 17)))) None (WordBody (at 3 19) (Assigned
           (Element (name (codes "A") (at 3 22)) Square (at 3 23) (FirstExpr (Named (name (codes "i") (at 3
@@ -188,7 +188,7 @@ abbrev pub fault_of_the_loop_itself : ProgramTree (List ℕ)
 fault_of_the_loop_itself =
     record {
       uses = [];
-      stmts = (Then (Forall (at 1 1) (OneVariable (name (codes "i") (at 1 8))) (at
+      stmts = (Then (Loop ForallWord (at 1 1) (OneVariable (name (codes "i") (at 1 8))) (at
           1 10) (RangeItem (Chain (Number (at 1 13) (pos 1)) (Link (at 1 14) Divide (Number (at 1 15) (pos
           0)) NoLinks)) (at 1 16) Closed (Number (at 1 18) (pos 2)) NoStride) None (WordBody (at 1 20)
           (Nothing (at 1 23)))) NoStmts);
@@ -212,10 +212,10 @@ abbrev pub bound_before_the_least : ProgramTree (List ℕ)
 bound_before_the_least =
     record {
       uses = [];
-      stmts = (Then (For (at 1 1) (OneVariable (name (codes "i") (at 1 5))) (at 1
+      stmts = (Then (Loop ForWord (at 1 1) (OneVariable (name (codes "i") (at 1 5))) (at 1
           7) (RangeItem (Prefixed (at 1 10) Minus (Number (at 1 11) (pos 1152921504606846976))) (at 1 30)
           HalfOpen (Prefixed (at 1 33) Minus (Number (at 1 34) (pos 1152921504606846976))) NoStride)
-          (WordBody (at 1 54) (Nothing (at 1 57)))) NoStmts);
+          None (WordBody (at 1 54) (Nothing (at 1 57)))) NoStmts);
       end = (at 1 58);
     }
 
@@ -225,7 +225,7 @@ stride_of_zero =
     record {
       uses = [];
       stmts = (Then (Declare (declared None (at 1 1) false (name (codes "s") (at 1
-          5)) (Some (typed (at 1 6) (ScalarType (at 1 8) IntKind))) None (at 1 11))) (Then (Forall (at 1
+          5)) (Some (typed (at 1 6) (ScalarType (at 1 8) IntKind))) None (at 1 11))) (Then (Loop ForallWord (at 1
           13) (OneVariable (name (codes "i") (at 1 20))) (at 1 22) (RangeItem (Number (at 1 25) (pos 1))
           (at 1 26) Closed (Number (at 1 28) (pos 8)) (By (at 1 30) (Number (at 1 33) (pos 0)))) (Some
           (with_intents (at 1 35) (at 1 40) (listed (ReduceIntent (at 1 41) Sum (at 1 43) (name (codes
@@ -239,9 +239,9 @@ abbrev pub stride_past_the_limit : ProgramTree (List ℕ)
 stride_past_the_limit =
     record {
       uses = [];
-      stmts = (Then (For (at 1 1) (OneVariable (name (codes "i") (at 1 5))) (at 1
+      stmts = (Then (Loop ForWord (at 1 1) (OneVariable (name (codes "i") (at 1 5))) (at 1
           7) (RangeItem (Number (at 1 10) (pos 1)) (at 1 11) Closed (Number (at 1 13) (pos 2)) (By (at 1
-          15) (Number (at 1 18) (pos 1152921504606846977)))) (WordBody (at 1 38) (Nothing (at 1 41))))
+          15) (Number (at 1 18) (pos 1152921504606846977)))) None (WordBody (at 1 38) (Nothing (at 1 41))))
           NoStmts);
       end = (at 1 42);
     }
@@ -251,9 +251,9 @@ abbrev pub bounds_before_stride : ProgramTree (List ℕ)
 bounds_before_stride =
     record {
       uses = [];
-      stmts = (Then (For (at 1 1) (OneVariable (name (codes "i") (at 1 5))) (at 1
+      stmts = (Then (Loop ForWord (at 1 1) (OneVariable (name (codes "i") (at 1 5))) (at 1
           7) (RangeItem (Number (at 1 10) (pos 1)) (at 1 11) Closed (Number (at 1 13) (pos
-          1152921504606846977)) (By (at 1 33) (Number (at 1 36) (pos 0)))) (WordBody (at 1 38) (Nothing
+          1152921504606846977)) (By (at 1 33) (Number (at 1 36) (pos 0)))) None (WordBody (at 1 38) (Nothing
           (at 1 41)))) NoStmts);
       end = (at 1 42);
     }
@@ -263,10 +263,10 @@ abbrev pub stride_evaluated_before_bounds : ProgramTree (List ℕ)
 stride_evaluated_before_bounds =
     record {
       uses = [];
-      stmts = (Then (For (at 1 1) (OneVariable (name (codes "i") (at 1 5))) (at 1
+      stmts = (Then (Loop ForWord (at 1 1) (OneVariable (name (codes "i") (at 1 5))) (at 1
           7) (RangeItem (Number (at 1 10) (pos 1)) (at 1 11) Closed (Number (at 1 13) (pos
           1152921504606846977)) (By (at 1 33) (Chain (Number (at 1 36) (pos 1)) (Link (at 1 37) Divide
-          (Number (at 1 38) (pos 0)) NoLinks)))) (WordBody (at 1 40) (Nothing (at 1 43)))) NoStmts);
+          (Number (at 1 38) (pos 0)) NoLinks)))) None (WordBody (at 1 40) (Nothing (at 1 43)))) NoStmts);
       end =
           (at 1 44);
     }
@@ -501,9 +501,9 @@ abbrev pub budget_of_a_for : ProgramTree (List ℕ)
 budget_of_a_for =
     record {
       uses = [];
-      stmts = (Then (For (at 1 1) (OneVariable (name (codes "i") (at 1 5))) (at 1
+      stmts = (Then (Loop ForWord (at 1 1) (OneVariable (name (codes "i") (at 1 5))) (at 1
           7) (RangeItem (Number (at 1 10) (pos 1)) (at 1 11) Closed (Number (at 1 13) (pos 4)) NoStride)
-          (WordBody (at 1 15) (Write (written_line (at 1 18) false (at 1 23) (Some (listed (ExprArgument
+          None (WordBody (at 1 15) (Write (written_line (at 1 18) false (at 1 23) (Some (listed (ExprArgument
           (Named (name (codes "i") (at 1 24)))) [])) (at 1 25) (at 1 26))))) NoStmts);
       end = (at 1 27);
     }
@@ -513,7 +513,7 @@ abbrev pub budget_of_a_forall : ProgramTree (List ℕ)
 budget_of_a_forall =
     record {
       uses = [];
-      stmts = (Then (Forall (at 1 1) (OneVariable (name (codes "i") (at 1 8))) (at
+      stmts = (Then (Loop ForallWord (at 1 1) (OneVariable (name (codes "i") (at 1 8))) (at
           1 10) (One (DomainLiteral (at 1 13) (FirstItem (RangeItem (Number (at 1 14) (pos 1)) (at 1 15)
           Closed (Number (at 1 17) (pos 2)) NoStride) (NextItem (at 1 18) (RangeItem (Number (at 1 20)
           (pos 1)) (at 1 21) Closed (Number (at 1 23) (pos 2)) NoStride) NoItems)) (at 1 24))) None
@@ -526,9 +526,9 @@ abbrev pub budget_that_is_enough : ProgramTree (List ℕ)
 budget_that_is_enough =
     record {
       uses = [];
-      stmts = (Then (For (at 1 1) (OneVariable (name (codes "i") (at 1 5))) (at 1
+      stmts = (Then (Loop ForWord (at 1 1) (OneVariable (name (codes "i") (at 1 5))) (at 1
           7) (RangeItem (Number (at 1 10) (pos 1)) (at 1 11) Closed (Number (at 1 13) (pos 3)) NoStride)
-          (WordBody (at 1 15) (Write (written_line (at 1 18) false (at 1 23) (Some (listed (ExprArgument
+          None (WordBody (at 1 15) (Write (written_line (at 1 18) false (at 1 23) (Some (listed (ExprArgument
           (Named (name (codes "i") (at 1 24)))) [])) (at 1 25) (at 1 26))))) NoStmts);
       end = (at 1 27);
     }

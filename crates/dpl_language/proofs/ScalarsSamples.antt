@@ -1,7 +1,7 @@
 -- The sample programs of `Scalars`, as trees with the places of their tokens; each stands behind its text.
 -- A script spelled them, which nobody has to trust: a tree that isn't its text's shows in its places.
 use Rattle.std.specs.Prelude.{ℕ, List, [], ◌∷◌, pos, Some, None, true, false, codes}
-use Rattle.dpl_language.specs.Tree.{Minus, Not, Add, Subtract, Multiply, Divide, Remainder, Less, LessEqual, Greater, GreaterEqual, Equal, NotEqual, And, Or, Sum, Product, AllOf, BitAnd, BitOr, BitXor, Least, Greatest, SetAdd, SetSubtract, SetMultiply, SetDivide, SetRemainder, SetReduce, IntKind, BoolKind, Closed, HalfOpen, Counted, Size, First, Last, Low, High, Number, TruthWord, Named, Grouped, DomainLiteral, Prefixed, Chain, Postfixed, One, RangeItem, NoStride, By, NoLinks, Link, NoPosts, Post, Brackets, Dotted, Plainly, Dim, Contains, Expand, FirstItem, NoItems, NextItem, FirstExpr, NoExprs, NextExpr, StartExpr, BlockMap, CyclicMap, ScalarType, CreateBlock, ItemInit, CreateInit, TextArgument, ExprArgument, ReduceIntent, OneVariable, ManyVariables, Whole, Nothing, Declare, Assigned, Write, Block, If, While, For, Forall, WordBody, BlockBody, NoStmts, Then, ElseDo, BlockModule, CyclicModule, ProgramTree}
+use Rattle.dpl_language.specs.Tree.{Minus, Not, Add, Subtract, Multiply, Divide, Remainder, Less, LessEqual, Greater, GreaterEqual, Equal, NotEqual, And, Or, Sum, Product, AllOf, BitAnd, BitOr, BitXor, Least, Greatest, SetAdd, SetSubtract, SetMultiply, SetDivide, SetRemainder, SetReduce, IntKind, BoolKind, Closed, HalfOpen, Counted, Size, First, Last, Low, High, Number, TruthWord, Named, Grouped, DomainLiteral, Prefixed, Chain, Postfixed, One, RangeItem, NoStride, By, NoLinks, Link, NoPosts, Post, Brackets, Dotted, Plainly, Dim, Contains, Expand, FirstItem, NoItems, NextItem, FirstExpr, NoExprs, NextExpr, StartExpr, BlockMap, CyclicMap, ScalarType, CreateBlock, ItemInit, CreateInit, TextArgument, ExprArgument, ReduceIntent, OneVariable, ManyVariables, Whole, Nothing, Declare, Assigned, Write, Block, If, Headed, Loop, WordBody, BlockBody, NoStmts, Then, ElseDo, BlockModule, CyclicModule, ProgramTree, WhileWord, ForWord, ForallWord}
 use Rattle.dpl_language.proofs.Spelled.{at, name, after, argument, block_map, cyclic_map, declared, initial, listed, mapped, sign, typed, used_module, with_intents, written_line}
 
 -- var s: int; forall i in 1..8 by 2 with (+ reduce s) do s += i*i; writeln(s);
@@ -10,7 +10,7 @@ sum_of_squares =
     record {
       uses = [];
       stmts = (Then (Declare (declared None (at 1 1) false (name (codes "s") (at 1
-          5)) (Some (typed (at 1 6) (ScalarType (at 1 8) IntKind))) None (at 1 11))) (Then (Forall (at 1
+          5)) (Some (typed (at 1 6) (ScalarType (at 1 8) IntKind))) None (at 1 11))) (Then (Loop ForallWord (at 1
           13) (OneVariable (name (codes "i") (at 1 20))) (at 1 22) (RangeItem (Number (at 1 25) (pos 1))
           (at 1 26) Closed (Number (at 1 28) (pos 8)) (By (at 1 30) (Number (at 1 33) (pos 2)))) (Some
           (with_intents (at 1 35) (at 1 40) (listed (ReduceIntent (at 1 41) Sum (at 1 43) (name (codes
@@ -29,7 +29,7 @@ max_over_nothing =
       uses = [];
       stmts = (Then (Declare (declared None (at 1 1) false (name (codes "m") (at 1
           5)) (Some (typed (at 1 6) (ScalarType (at 1 8) IntKind))) (Some (initial (at 1 12) (ItemInit
-          (One (Prefixed (at 1 14) Minus (Number (at 1 15) (pos 7)))) None))) (at 1 16))) (Then (Forall
+          (One (Prefixed (at 1 14) Minus (Number (at 1 15) (pos 7)))) None))) (at 1 16))) (Then (Loop ForallWord
           (at 1 18) (OneVariable (name (codes "i") (at 1 25))) (at 1 27) (RangeItem (Number (at 1 30) (pos
           5)) (at 1 31) Closed (Number (at 1 33) (pos 4)) NoStride) (Some (with_intents (at 1 35) (at 1
           40) (listed (ReduceIntent (at 1 41) Greatest (at 1 45) (name (codes "m") (at 1 52))) []) (at 1
@@ -45,9 +45,9 @@ abbrev pub falling_range : ProgramTree (List ℕ)
 falling_range =
     record {
       uses = [];
-      stmts = (Then (For (at 1 1) (OneVariable (name (codes "i") (at 1 5))) (at 1
+      stmts = (Then (Loop ForWord (at 1 1) (OneVariable (name (codes "i") (at 1 5))) (at 1
           7) (RangeItem (Number (at 1 10) (pos 1)) (at 1 11) Closed (Number (at 1 13) (pos 10)) (By (at 1
-          16) (Prefixed (at 1 19) Minus (Number (at 1 20) (pos 3))))) (WordBody (at 1 22) (Write
+          16) (Prefixed (at 1 19) Minus (Number (at 1 20) (pos 3))))) None (WordBody (at 1 22) (Write
           (written_line (at 1 25) false (at 1 30) (Some (listed (ExprArgument (Named (name (codes "i") (at
           1 31)))) (after (at 1 32) (TextArgument (at 1 34) (codes " ")) ∷ []))) (at 1 37) (at 1 38)))))
           (Then (Write (written_line (at 1 40) true (at 1 47) None (at 1 48) (at 1 49))) NoStmts));
@@ -63,10 +63,10 @@ slice_of_a_falling_range =
       stmts = (Then (Declare (declared None (at 1 1) true (name (codes "r") (at 1
           7)) None (Some (initial (at 1 9) (ItemInit (RangeItem (Number (at 1 11) (pos 1)) (at 1 12)
           Closed (Number (at 1 14) (pos 10)) (By (at 1 17) (Prefixed (at 1 20) Minus (Number (at 1 21)
-          (pos 3))))) None))) (at 1 22))) (Then (For (at 1 24) (OneVariable (name (codes "i") (at 1 28)))
+          (pos 3))))) None))) (at 1 22))) (Then (Loop ForWord (at 1 24) (OneVariable (name (codes "i") (at 1 28)))
           (at 1 30) (One (Postfixed (Named (name (codes "r") (at 1 33))) (Post (Brackets (at 1 34)
           (FirstItem (RangeItem (Number (at 1 35) (pos 2)) (at 1 36) Closed (Number (at 1 38) (pos 8))
-          NoStride) NoItems) (at 1 39)) NoPosts))) (WordBody (at 1 41) (Write (written_line (at 1 44)
+          NoStride) NoItems) (at 1 39)) NoPosts))) None (WordBody (at 1 41) (Write (written_line (at 1 44)
           false (at 1 49) (Some (listed (ExprArgument (Named (name (codes "i") (at 1 50)))) (after (at 1
           51) (TextArgument (at 1 53) (codes " ")) ∷ []))) (at 1 56) (at 1 57))))) (Then (Write
           (written_line (at 1 59) true (at 1 66) (Some (listed (ExprArgument (Postfixed (Named (name
@@ -108,7 +108,7 @@ abbrev pub while_past_the_budget : ProgramTree (List ℕ)
 while_past_the_budget =
     record {
       uses = [];
-      stmts = (Then (While (at 1 1) (TruthWord (at 1 7) true) (WordBody (at 1 12)
+      stmts = (Then (Headed WhileWord (at 1 1) (TruthWord (at 1 7) true) (WordBody (at 1 12)
           (Write (written_line (at 1 15) true (at 1 22) (Some (listed (ExprArgument (Number (at 1 23) (pos
           1))) [])) (at 1 24) (at 1 25))))) NoStmts);
       end = (at 1 26);
@@ -263,7 +263,7 @@ three_intents =
           (declared None (at 1 18) false (name (codes "o") (at 1 22)) (Some (typed (at 1 23) (ScalarType
           (at 1 25) IntKind))) None (at 1 28))) (Then (Declare (declared None (at 1 30) false (name (codes
           "x") (at 1 34)) (Some (typed (at 1 35) (ScalarType (at 1 37) IntKind))) None (at 1 40))) (Then
-          (Forall (at 1 42) (OneVariable (name (codes "i") (at 1 49))) (at 1 51) (RangeItem (Number (at 1
+          (Loop ForallWord (at 1 42) (OneVariable (name (codes "i") (at 1 49))) (at 1 51) (RangeItem (Number (at 1
           54) (pos 4)) (at 1 55) Closed (Number (at 1 57) (pos 7)) NoStride) (Some (with_intents (at 1 59)
           (at 1 64) (listed (ReduceIntent (at 1 65) BitAnd (at 1 67) (name (codes "a") (at 1 74))) (after
           (at 1 75) (ReduceIntent (at 1 77) BitOr (at 1 79) (name (codes "o") (at 1 86))) ∷ after (at 1
@@ -291,7 +291,7 @@ truth_intent =
           (One (TruthWord (at 1 15) true)) None))) (at 1 19))) (Then (Declare (declared None (at 1 21)
           false (name (codes "m") (at 1 25)) (Some (typed (at 1 26) (ScalarType (at 1 28) IntKind))) (Some
           (initial (at 1 32) (ItemInit (One (Number (at 1 34) (pos 100))) None))) (at 1 37))) (Then
-          (Forall (at 1 39) (OneVariable (name (codes "i") (at 1 46))) (at 1 48) (RangeItem (Number (at 1
+          (Loop ForallWord (at 1 39) (OneVariable (name (codes "i") (at 1 46))) (at 1 48) (RangeItem (Number (at 1
           51) (pos 1)) (at 1 52) Closed (Number (at 1 54) (pos 6)) NoStride) (Some (with_intents (at 1 56)
           (at 1 61) (listed (ReduceIntent (at 1 62) AllOf (at 1 65) (name (codes "a") (at 1 72))) (after
           (at 1 73) (ReduceIntent (at 1 75) Least (at 1 79) (name (codes "m") (at 1 86))) ∷ [])) (at 1
@@ -320,7 +320,7 @@ two_intents =
           5)) (Some (typed (at 1 6) (ScalarType (at 1 8) IntKind))) (Some (initial (at 1 12) (ItemInit
           (One (Number (at 1 14) (pos 1))) None))) (at 1 15))) (Then (Declare (declared None (at 1 17)
           false (name (codes "t") (at 1 21)) (Some (typed (at 1 22) (ScalarType (at 1 24) IntKind))) None
-          (at 1 27))) (Then (Forall (at 1 29) (OneVariable (name (codes "i") (at 1 36))) (at 1 38)
+          (at 1 27))) (Then (Loop ForallWord (at 1 29) (OneVariable (name (codes "i") (at 1 36))) (at 1 38)
           (RangeItem (Number (at 1 41) (pos 1)) (at 1 42) Closed (Number (at 1 44) (pos 3)) NoStride)
           (Some (with_intents (at 1 46) (at 1 51) (listed (ReduceIntent (at 1 52) Product (at 1 54) (name
           (codes "s") (at 1 61))) (after (at 1 62) (ReduceIntent (at 1 64) Sum (at 1 66) (name (codes "t")
@@ -347,7 +347,7 @@ product_of_twenty =
           (at 1 27) (FirstItem (RangeItem (Number (at 1 28) (pos 1)) (at 1 29) Closed (Number (at 1 31)
           (pos 20)) NoStride) NoItems) (at 1 33))) (Some (mapped (at 1 35) (CyclicMap (cyclic_map (at 1
           43) (at 1 47) (at 1 57) (Some (argument (at 1 58) (at 1 66))) (StartExpr (Number (at 1 67) (pos
-          1))) (at 1 68)))))))) (at 1 69))) (Then (Forall (at 1 71) (OneVariable (name (codes "i") (at 1
+          1))) (at 1 68)))))))) (at 1 69))) (Then (Loop ForallWord (at 1 71) (OneVariable (name (codes "i") (at 1
           78))) (at 1 80) (One (Named (name (codes "D") (at 1 83)))) (Some (with_intents (at 1 85) (at 1
           90) (listed (ReduceIntent (at 1 91) Product (at 1 93) (name (codes "p") (at 1 100))) []) (at 1
           101))) (WordBody (at 1 103) (Assigned (Whole (name (codes "p") (at 1 106))) (sign (at 1 108)
@@ -363,7 +363,7 @@ whiles =
     record {
       uses = [];
       stmts = (Then (Declare (declared None (at 1 1) false (name (codes "i") (at 1
-          5)) (Some (typed (at 1 6) (ScalarType (at 1 8) IntKind))) None (at 1 11))) (Then (While (at 1
+          5)) (Some (typed (at 1 6) (ScalarType (at 1 8) IntKind))) None (at 1 11))) (Then (Headed WhileWord (at 1
           13) (Chain (Named (name (codes "i") (at 1 19))) (Link (at 1 21) Less (Number (at 1 23) (pos 3))
           NoLinks)) (BlockBody (at 1 25) (Then (Assigned (Whole (name (codes "i") (at 1 27))) (sign (at 1
           29) SetAdd (at 1 29)) (One (Number (at 1 32) (pos 1))) (at 1 33)) (Then (If (at 1 35) (Chain
@@ -409,9 +409,9 @@ hidden_names =
           (at 1 26) IntKind))) (Some (initial (at 1 30) (ItemInit (One (Number (at 1 32) (pos 2))) None)))
           (at 1 33))) (Then (Write (written_line (at 1 35) false (at 1 40) (Some (listed (ExprArgument
           (Named (name (codes "i") (at 1 41)))) (after (at 1 42) (TextArgument (at 1 44) (codes " ")) ∷
-          []))) (at 1 47) (at 1 48))) NoStmts)) (at 1 50)) (Then (For (at 1 52) (OneVariable (name (codes
+          []))) (at 1 47) (at 1 48))) NoStmts)) (at 1 50)) (Then (Loop ForWord (at 1 52) (OneVariable (name (codes
           "i") (at 1 56))) (at 1 58) (RangeItem (Number (at 1 61) (pos 5)) (at 1 62) Closed (Number (at 1
-          64) (pos 6)) NoStride) (WordBody (at 1 66) (Nothing (at 1 69)))) (Then (Write (written_line (at
+          64) (pos 6)) NoStride) None (WordBody (at 1 66) (Nothing (at 1 69)))) (Then (Write (written_line (at
           1 71) true (at 1 78) (Some (listed (ExprArgument (Named (name (codes "i") (at 1 79)))) [])) (at
           1 80) (at 1 81))) NoStmts))));
       end = (at 1 82);
@@ -422,12 +422,12 @@ abbrev pub ends_of_ranges : ProgramTree (List ℕ)
 ends_of_ranges =
     record {
       uses = [];
-      stmts = (Then (For (at 1 1) (OneVariable (name (codes "i") (at 1 5))) (at 1
+      stmts = (Then (Loop ForWord (at 1 1) (OneVariable (name (codes "i") (at 1 5))) (at 1
           7) (RangeItem (Number (at 1 10) (pos 0)) (at 1 11) HalfOpen (Number (at 1 14) (pos 3)) NoStride)
-          (WordBody (at 1 16) (Write (written_line (at 1 19) false (at 1 24) (Some (listed (ExprArgument
-          (Named (name (codes "i") (at 1 25)))) [])) (at 1 26) (at 1 27))))) (Then (For (at 1 29)
+          None (WordBody (at 1 16) (Write (written_line (at 1 19) false (at 1 24) (Some (listed (ExprArgument
+          (Named (name (codes "i") (at 1 25)))) [])) (at 1 26) (at 1 27))))) (Then (Loop ForWord (at 1 29)
           (OneVariable (name (codes "i") (at 1 33))) (at 1 35) (RangeItem (Number (at 1 38) (pos 2)) (at 1
-          39) (Counted (at 1 41)) (Number (at 1 42) (pos 3)) NoStride) (WordBody (at 1 44) (Write
+          39) (Counted (at 1 41)) (Number (at 1 42) (pos 3)) NoStride) None (WordBody (at 1 44) (Write
           (written_line (at 1 47) false (at 1 52) (Some (listed (ExprArgument (Named (name (codes "i") (at
           1 53)))) [])) (at 1 54) (at 1 55))))) (Then (Write (written_line (at 1 57) true (at 1 64) None
           (at 1 65) (at 1 66))) NoStmts)));
@@ -658,12 +658,12 @@ abbrev pub strided_pairs : ProgramTree (List ℕ)
 strided_pairs =
     record {
       uses = [];
-      stmts = (Then (For (at 1 1) (ManyVariables (at 1 5) (listed (name (codes
+      stmts = (Then (Loop ForWord (at 1 1) (ManyVariables (at 1 5) (listed (name (codes
           "i") (at 1 6)) (after (at 1 7) (name (codes "j") (at 1 8)) ∷ [])) (at 1 9)) (at 1 11) (One
           (DomainLiteral (at 1 14) (FirstItem (RangeItem (Number (at 1 15) (pos 1)) (at 1 16) Closed
           (Number (at 1 18) (pos 10)) (By (at 1 21) (Number (at 1 24) (pos 4)))) (NextItem (at 1 25)
           (RangeItem (Number (at 1 27) (pos 0)) (at 1 28) Closed (Number (at 1 30) (pos 1)) NoStride)
-          NoItems)) (at 1 31))) (WordBody (at 1 33) (Write (written_line (at 1 36) false (at 1 41) (Some
+          NoItems)) (at 1 31))) None (WordBody (at 1 33) (Write (written_line (at 1 36) false (at 1 41) (Some
           (listed (ExprArgument (Named (name (codes "i") (at 1 42)))) (after (at 1 43) (ExprArgument
           (Named (name (codes "j") (at 1 45)))) ∷ after (at 1 46) (TextArgument (at 1 48) (codes " ")) ∷
           []))) (at 1 51) (at 1 52))))) (Then (Write (written_line (at 1 54) true (at 1 61) None (at 1 62)

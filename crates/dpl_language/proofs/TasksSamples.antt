@@ -1,7 +1,7 @@
 -- The sample programs of `Tasks`, as trees with the places of their tokens; each stands behind its text.
 -- A script spelled them, which nobody has to trust: a tree that isn't its text's shows in its places.
 use Rattle.std.specs.Prelude.{ℕ, List, [], ◌∷◌, pos, Some, None, true, false, codes}
-use Rattle.dpl_language.specs.Tree.{Minus, Add, Subtract, Multiply, Divide, Equal, Set, SetAdd, IntKind, BoolKind, Closed, Id, ReadFEWord, ReadFFWord, WriteEFWord, WriteFFWord, WriteXFWord, Number, TruthWord, Named, LocalesWord, LocaleCount, HereWord, Grouped, Prefixed, Chain, Postfixed, One, RangeItem, NoStride, NoLinks, Link, NoPosts, Post, Brackets, Dotted, Plainly, CellRead, FirstItem, NoItems, ScalarType, SyncType, ItemInit, TextArgument, ExprArgument, OneVariable, Whole, ReadCall, ResetCall, WriteCall, Nothing, Declare, Assigned, Call, Write, Block, If, For, Coforall, On, WordBody, BlockBody, NoStmts, Then, ElseDo, ProgramTree}
+use Rattle.dpl_language.specs.Tree.{Minus, Add, Subtract, Multiply, Divide, Equal, Set, SetAdd, IntKind, BoolKind, Closed, Id, ReadFEWord, ReadFFWord, WriteEFWord, WriteFFWord, WriteXFWord, Number, TruthWord, Named, LocalesWord, LocaleCount, HereWord, Grouped, Prefixed, Chain, Postfixed, One, RangeItem, NoStride, NoLinks, Link, NoPosts, Post, Brackets, Dotted, Plainly, CellRead, FirstItem, NoItems, ScalarType, SyncType, ItemInit, TextArgument, ExprArgument, OneVariable, Whole, ReadCall, ResetCall, WriteCall, Nothing, Declare, Assigned, Call, Write, Block, If, Headed, Loop, WordBody, BlockBody, NoStmts, Then, ElseDo, ProgramTree, OnWord, ForWord, CoforallWord}
 use Rattle.dpl_language.proofs.Spelled.{at, name, after, declared, initial, listed, sign, typed, written_line}
 
 -- var c: sync int; var t: sync int; coforall k in 0..1 { if k == 0 { for i in 1..3 do c.writeEF(i); } else { var s: int; for i in 1..3 do s += c.readFE(); t.writeEF(s); } } writeln(t.readFE());
@@ -12,18 +12,18 @@ three_values_sent =
       stmts = (Then (Declare (declared None (at 1 1) false (name (codes "c") (at 1
           5)) (Some (typed (at 1 6) (SyncType (at 1 8) (at 1 13) IntKind))) None (at 1 16))) (Then
           (Declare (declared None (at 1 18) false (name (codes "t") (at 1 22)) (Some (typed (at 1 23)
-          (SyncType (at 1 25) (at 1 30) IntKind))) None (at 1 33))) (Then (Coforall (at 1 35) (OneVariable
+          (SyncType (at 1 25) (at 1 30) IntKind))) None (at 1 33))) (Then (Loop CoforallWord (at 1 35) (OneVariable
           (name (codes "k") (at 1 44))) (at 1 46) (RangeItem (Number (at 1 49) (pos 0)) (at 1 50) Closed
           (Number (at 1 52) (pos 1)) NoStride) None (BlockBody (at 1 54) (Then (If (at 1 56) (Chain (Named
           (name (codes "k") (at 1 59))) (Link (at 1 61) Equal (Number (at 1 64) (pos 0)) NoLinks))
-          (BlockBody (at 1 66) (Then (For (at 1 68) (OneVariable (name (codes "i") (at 1 72))) (at 1 74)
+          (BlockBody (at 1 66) (Then (Loop ForWord (at 1 68) (OneVariable (name (codes "i") (at 1 72))) (at 1 74)
           (RangeItem (Number (at 1 77) (pos 1)) (at 1 78) Closed (Number (at 1 80) (pos 3)) NoStride)
-          (WordBody (at 1 82) (Call (name (codes "c") (at 1 85)) (at 1 86) (WriteCall (at 1 87)
+          None (WordBody (at 1 82) (Call (name (codes "c") (at 1 85)) (at 1 86) (WriteCall (at 1 87)
           WriteEFWord (at 1 94) (Named (name (codes "i") (at 1 95))) (at 1 96)) (at 1 97)))) NoStmts) (at
           1 99)) (ElseDo (at 1 101) (Block (at 1 106) (Then (Declare (declared None (at 1 108) false (name
           (codes "s") (at 1 112)) (Some (typed (at 1 113) (ScalarType (at 1 115) IntKind))) None (at 1
-          118))) (Then (For (at 1 120) (OneVariable (name (codes "i") (at 1 124))) (at 1 126) (RangeItem
-          (Number (at 1 129) (pos 1)) (at 1 130) Closed (Number (at 1 132) (pos 3)) NoStride) (WordBody
+          118))) (Then (Loop ForWord (at 1 120) (OneVariable (name (codes "i") (at 1 124))) (at 1 126) (RangeItem
+          (Number (at 1 129) (pos 1)) (at 1 130) Closed (Number (at 1 132) (pos 3)) NoStride) None (WordBody
           (at 1 134) (Assigned (Whole (name (codes "s") (at 1 137))) (sign (at 1 139) SetAdd (at 1 139))
           (One (Postfixed (Named (name (codes "c") (at 1 142))) (Post (Dotted (at 1 143) (CellRead (at 1
           144) ReadFEWord (at 1 150) (at 1 151))) NoPosts))) (at 1 152)))) (Then (Call (name (codes "t")
@@ -55,7 +55,7 @@ task_that_waits =
       uses = [];
       stmts = (Then (Declare (declared None (at 1 1) false (name (codes "c") (at 1
           5)) (Some (typed (at 1 6) (SyncType (at 1 8) (at 1 13) IntKind))) None (at 1 16))) (Then
-          (Coforall (at 1 18) (OneVariable (name (codes "k") (at 1 27))) (at 1 29) (RangeItem (Number (at
+          (Loop CoforallWord (at 1 18) (OneVariable (name (codes "k") (at 1 27))) (at 1 29) (RangeItem (Number (at
           1 32) (pos 0)) (at 1 33) Closed (Number (at 1 35) (pos 0)) NoStride) None (WordBody (at 1 37)
           (Call (name (codes "c") (at 1 40)) (at 1 41) (WriteCall (at 1 42) WriteFFWord (at 1 49) (Named
           (name (codes "k") (at 1 50))) (at 1 51)) (at 1 52)))) NoStmts));
@@ -67,8 +67,8 @@ abbrev pub each_locale : ProgramTree (List ℕ)
 each_locale =
     record {
       uses = [];
-      stmts = (Then (For (at 1 1) (OneVariable (name (codes "loc") (at 1 5))) (at
-          1 9) (One (LocalesWord (at 1 12))) (WordBody (at 1 20) (On (at 1 23) (Named (name (codes "loc")
+      stmts = (Then (Loop ForWord (at 1 1) (OneVariable (name (codes "loc") (at 1 5))) (at
+          1 9) (One (LocalesWord (at 1 12))) None (WordBody (at 1 20) (Headed OnWord (at 1 23) (Named (name (codes "loc")
           (at 1 26))) (WordBody (at 1 30) (Write (written_line (at 1 33) false (at 1 38) (Some (listed
           (ExprArgument (Postfixed (HereWord (at 1 39)) (Post (Dotted (at 1 43) (Plainly (at 1 44) Id))
           NoPosts))) (after (at 1 46) (TextArgument (at 1 48) (codes " ")) ∷ []))) (at 1 51) (at 1
@@ -82,7 +82,7 @@ abbrev pub locale_outside : ProgramTree (List ℕ)
 locale_outside =
     record {
       uses = [];
-      stmts = (Then (On (at 1 1) (Postfixed (LocalesWord (at 1 4)) (Post (Brackets
+      stmts = (Then (Headed OnWord (at 1 1) (Postfixed (LocalesWord (at 1 4)) (Post (Brackets
           (at 1 11) (FirstItem (One (LocaleCount (at 1 12))) NoItems) (at 1 22)) NoPosts)) (WordBody (at 1
           24) (Write (written_line (at 1 27) true (at 1 34) (Some (listed (ExprArgument (Number (at 1 35)
           (pos 1))) [])) (at 1 36) (at 1 37))))) NoStmts);
@@ -106,7 +106,7 @@ abbrev pub here_again : ProgramTree (List ℕ)
 here_again =
     record {
       uses = [];
-      stmts = (Then (On (at 1 1) (Postfixed (LocalesWord (at 1 4)) (Post (Brackets
+      stmts = (Then (Headed OnWord (at 1 1) (Postfixed (LocalesWord (at 1 4)) (Post (Brackets
           (at 1 11) (FirstItem (One (Number (at 1 12) (pos 1))) NoItems) (at 1 13)) NoPosts)) (WordBody
           (at 1 15) (Write (written_line (at 1 18) false (at 1 23) (Some (listed (ExprArgument (Postfixed
           (HereWord (at 1 24)) (Post (Dotted (at 1 28) (Plainly (at 1 29) Id)) NoPosts))) [])) (at 1 31)
@@ -205,7 +205,7 @@ no_reply_left =
       uses = [];
       stmts = (Then (Declare (declared None (at 1 1) false (name (codes "c") (at 1
           5)) (Some (typed (at 1 6) (SyncType (at 1 8) (at 1 13) IntKind))) None (at 1 16))) (Then
-          (Coforall (at 1 18) (OneVariable (name (codes "k") (at 1 27))) (at 1 29) (RangeItem (Number (at
+          (Loop CoforallWord (at 1 18) (OneVariable (name (codes "k") (at 1 27))) (at 1 29) (RangeItem (Number (at
           1 32) (pos 0)) (at 1 33) Closed (Number (at 1 35) (pos 0)) NoStride) None (WordBody (at 1 37)
           (Call (name (codes "c") (at 1 40)) (at 1 41) (WriteCall (at 1 42) WriteEFWord (at 1 49) (Named
           (name (codes "k") (at 1 50))) (at 1 51)) (at 1 52)))) NoStmts));
@@ -217,7 +217,7 @@ abbrev pub no_tasks : ProgramTree (List ℕ)
 no_tasks =
     record {
       uses = [];
-      stmts = (Then (Coforall (at 1 1) (OneVariable (name (codes "k") (at 1 10)))
+      stmts = (Then (Loop CoforallWord (at 1 1) (OneVariable (name (codes "k") (at 1 10)))
           (at 1 12) (RangeItem (Number (at 1 15) (pos 1)) (at 1 16) Closed (Number (at 1 18) (pos 0))
           NoStride) None (WordBody (at 1 20) (Nothing (at 1 23)))) (Then (Write (written_line (at 1 25)
           true (at 1 32) (Some (listed (ExprArgument (Number (at 1 33) (pos 1))) [])) (at 1 34) (at 1
@@ -230,7 +230,7 @@ abbrev pub too_many_tasks : ProgramTree (List ℕ)
 too_many_tasks =
     record {
       uses = [];
-      stmts = (Then (Coforall (at 1 1) (OneVariable (name (codes "k") (at 1 10)))
+      stmts = (Then (Loop CoforallWord (at 1 1) (OneVariable (name (codes "k") (at 1 10)))
           (at 1 12) (RangeItem (Number (at 1 15) (pos 1)) (at 1 16) Closed (Number (at 1 18) (pos 65))
           NoStride) None (WordBody (at 1 21) (Nothing (at 1 24)))) NoStmts);
       end = (at 1 25);
@@ -241,7 +241,7 @@ abbrev pub as_many_tasks_as_may_be : ProgramTree (List ℕ)
 as_many_tasks_as_may_be =
     record {
       uses = [];
-      stmts = (Then (Coforall (at 1 1) (OneVariable (name (codes "k") (at 1 10)))
+      stmts = (Then (Loop CoforallWord (at 1 1) (OneVariable (name (codes "k") (at 1 10)))
           (at 1 12) (RangeItem (Number (at 1 15) (pos 1)) (at 1 16) Closed (Number (at 1 18) (pos 64))
           NoStride) None (WordBody (at 1 21) (Nothing (at 1 24)))) (Then (Write (written_line (at 1 26)
           true (at 1 33) (Some (listed (ExprArgument (Number (at 1 34) (pos 1))) [])) (at 1 35) (at 1
@@ -254,7 +254,7 @@ abbrev pub no_budget_of_tasks : ProgramTree (List ℕ)
 no_budget_of_tasks =
     record {
       uses = [];
-      stmts = (Then (Coforall (at 1 1) (OneVariable (name (codes "k") (at 1 10)))
+      stmts = (Then (Loop CoforallWord (at 1 1) (OneVariable (name (codes "k") (at 1 10)))
           (at 1 12) (RangeItem (Number (at 1 15) (pos 1)) (at 1 16) Closed (Number (at 1 18) (pos 4))
           NoStride) None (WordBody (at 1 20) (Nothing (at 1 23)))) (Then (Write (written_line (at 1 25)
           true (at 1 32) (Some (listed (ExprArgument (Number (at 1 33) (pos 1))) [])) (at 1 34) (at 1
@@ -269,10 +269,10 @@ two_coforalls =
       uses = [];
       stmts = (Then (Declare (declared None (at 1 1) false (name (codes "c") (at 1
           5)) (Some (typed (at 1 6) (SyncType (at 1 8) (at 1 13) IntKind))) None (at 1 16))) (Then
-          (Coforall (at 1 18) (OneVariable (name (codes "k") (at 1 27))) (at 1 29) (RangeItem (Number (at
+          (Loop CoforallWord (at 1 18) (OneVariable (name (codes "k") (at 1 27))) (at 1 29) (RangeItem (Number (at
           1 32) (pos 1)) (at 1 33) Closed (Number (at 1 35) (pos 1)) NoStride) None (WordBody (at 1 37)
           (Call (name (codes "c") (at 1 40)) (at 1 41) (WriteCall (at 1 42) WriteEFWord (at 1 49) (Named
-          (name (codes "k") (at 1 50))) (at 1 51)) (at 1 52)))) (Then (Coforall (at 1 54) (OneVariable
+          (name (codes "k") (at 1 50))) (at 1 51)) (at 1 52)))) (Then (Loop CoforallWord (at 1 54) (OneVariable
           (name (codes "k") (at 1 63))) (at 1 65) (RangeItem (Number (at 1 68) (pos 2)) (at 1 69) Closed
           (Number (at 1 71) (pos 3)) NoStride) None (BlockBody (at 1 73) (Then (If (at 1 75) (Chain (Named
           (name (codes "k") (at 1 78))) (Link (at 1 80) Equal (Number (at 1 83) (pos 2)) NoLinks))
@@ -297,7 +297,7 @@ hidden_cell =
           5)) (Some (typed (at 1 6) (SyncType (at 1 8) (at 1 13) IntKind))) (Some (initial (at 1 17)
           (ItemInit (One (Number (at 1 19) (pos 1))) None))) (at 1 20))) (Then (Block (at 1 22) (Then
           (Declare (declared None (at 1 24) false (name (codes "c") (at 1 28)) (Some (typed (at 1 29)
-          (SyncType (at 1 31) (at 1 36) IntKind))) None (at 1 39))) (Then (Coforall (at 1 41) (OneVariable
+          (SyncType (at 1 31) (at 1 36) IntKind))) None (at 1 39))) (Then (Loop CoforallWord (at 1 41) (OneVariable
           (name (codes "k") (at 1 50))) (at 1 52) (RangeItem (Number (at 1 55) (pos 0)) (at 1 56) Closed
           (Number (at 1 58) (pos 0)) NoStride) None (WordBody (at 1 60) (Call (name (codes "c") (at 1 63))
           (at 1 64) (WriteCall (at 1 65) WriteEFWord (at 1 72) (Number (at 1 73) (pos 5)) (at 1 74)) (at 1
@@ -317,9 +317,9 @@ locale_tasks =
       uses = [];
       stmts = (Then (Declare (declared None (at 1 1) false (name (codes "c") (at 1
           5)) (Some (typed (at 1 6) (SyncType (at 1 8) (at 1 13) IntKind))) (Some (initial (at 1 17)
-          (ItemInit (One (Number (at 1 19) (pos 0))) None))) (at 1 20))) (Then (Coforall (at 1 22)
+          (ItemInit (One (Number (at 1 19) (pos 0))) None))) (at 1 20))) (Then (Loop CoforallWord (at 1 22)
           (OneVariable (name (codes "loc") (at 1 31))) (at 1 35) (One (LocalesWord (at 1 38))) None
-          (WordBody (at 1 46) (On (at 1 49) (Named (name (codes "loc") (at 1 52))) (BlockBody (at 1 56)
+          (WordBody (at 1 46) (Headed OnWord (at 1 49) (Named (name (codes "loc") (at 1 52))) (BlockBody (at 1 56)
           (Then (Declare (declared None (at 1 58) false (name (codes "v") (at 1 62)) (Some (typed (at 1
           63) (ScalarType (at 1 65) IntKind))) None (at 1 68))) (Then (Assigned (Whole (name (codes "v")
           (at 1 70))) (sign (at 1 72) Set (at 1 72)) (One (Postfixed (Named (name (codes "c") (at 1 74)))
@@ -342,7 +342,7 @@ fault_in_a_task =
       uses = [];
       stmts = (Then (Declare (declared None (at 1 1) false (name (codes "c") (at 1
           5)) (Some (typed (at 1 6) (SyncType (at 1 8) (at 1 13) IntKind))) None (at 1 16))) (Then
-          (Coforall (at 1 18) (OneVariable (name (codes "k") (at 1 27))) (at 1 29) (RangeItem (Number (at
+          (Loop CoforallWord (at 1 18) (OneVariable (name (codes "k") (at 1 27))) (at 1 29) (RangeItem (Number (at
           1 32) (pos 0)) (at 1 33) Closed (Number (at 1 35) (pos 3)) NoStride) None (BlockBody (at 1 37)
           (Then (Declare (declared None (at 1 39) true (name (codes "q") (at 1 45)) None (Some (initial
           (at 1 47) (ItemInit (One (Chain (Number (at 1 49) (pos 6)) (Link (at 1 51) Divide (Grouped (at 1
@@ -364,7 +364,7 @@ each_waits =
       stmts = (Then (Declare (declared None (at 1 1) false (name (codes "a") (at 1
           5)) (Some (typed (at 1 6) (SyncType (at 1 8) (at 1 13) IntKind))) None (at 1 16))) (Then
           (Declare (declared None (at 1 18) false (name (codes "b") (at 1 22)) (Some (typed (at 1 23)
-          (SyncType (at 1 25) (at 1 30) IntKind))) None (at 1 33))) (Then (Coforall (at 1 35) (OneVariable
+          (SyncType (at 1 25) (at 1 30) IntKind))) None (at 1 33))) (Then (Loop CoforallWord (at 1 35) (OneVariable
           (name (codes "k") (at 1 44))) (at 1 46) (RangeItem (Number (at 1 49) (pos 0)) (at 1 50) Closed
           (Number (at 1 52) (pos 1)) NoStride) None (BlockBody (at 1 54) (Then (If (at 1 56) (Chain (Named
           (name (codes "k") (at 1 59))) (Link (at 1 61) Equal (Number (at 1 64) (pos 0)) NoLinks))

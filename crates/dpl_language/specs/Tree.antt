@@ -264,8 +264,19 @@ pub data CallTree (N : Type 0) : Type 0 where
   ResetCall : Place → Place → Place → CallTree N
   WriteCall : Place → WriteWord → Place → ExprTree N → Place → CallTree N
 
+-- the words of statements with an expression before their body
+pub data HeadWord : Type 0 where
+  WhileWord : HeadWord
+  OnWord : HeadWord
+
+-- the words of loops over indices
+pub data LoopWord : Type 0 where
+  ForWord : LoopWord
+  ForallWord : LoopWord
+  CoforallWord : LoopWord
+
 mutual
-  -- Statements. Those with a body hold a statement, and so their parts stand side by side.
+  -- Statements. Those with a body hold a statement, and so their parts stand side by side. A `for` has no intents.
   pub data StmtTree (N : Type 0) : Type 0 where
     Nothing : Place → StmtTree N
     Declare : DeclareTree N → StmtTree N
@@ -274,11 +285,8 @@ mutual
     Write : WriteTree N → StmtTree N
     Block : Place → Stmts N → Place → StmtTree N
     If : Place → ExprTree N → Body N → Else N → StmtTree N
-    While : Place → ExprTree N → Body N → StmtTree N
-    For : Place → VariablesTree N → Place → ItemTree N → Body N → StmtTree N
-    Forall : Place → VariablesTree N → Place → ItemTree N → Option (WithTree N) → Body N → StmtTree N
-    Coforall : Place → VariablesTree N → Place → ItemTree N → Option (WithTree N) → Body N → StmtTree N
-    On : Place → ExprTree N → Body N → StmtTree N
+    Headed : HeadWord → Place → ExprTree N → Body N → StmtTree N
+    Loop : LoopWord → Place → VariablesTree N → Place → ItemTree N → Option (WithTree N) → Body N → StmtTree N
 
   -- a body, and what is done where a condition holds: `do` or `then` and a statement, or a block
   pub data Body (N : Type 0) : Type 0 where

@@ -4,14 +4,14 @@ use Rattle.std.proofs.Common.{◌≡◌, Bool, false, List, [], ◌∷◌, refl,
 use Rattle.std.specs.Prelude.{◌||◌, option_map}
 use Rattle.dpl_syntax.specs.declared.place.Place.{Place}
 use Rattle.dpl_language.specs.Tree.{Placed, AfterComma, Listed, Kind, IntKind, BoolKind, AssignTree, ExprTree, Grouped, DomainLiteral, ItemTree, One, Items, FirstItem, NoItems, NextItem, StartTree, StartExpr, StartTuple, MapTree, BlockMap, CyclicMap, BlockCyclicMap, MappedTree, CreateWord, CreateBlock, CreateCyclic, TypeTree, ScalarType, SyncType, DomainType, ArrayType, InitTree, ItemInit, CreateInit, InitialTree, DeclareTree}
-use Rattle.dpl_language.specs.Tree.{ArgumentTree, TextArgument, ExprArgument, WriteTree, VariablesTree, OneVariable, ManyVariables, TargetTree, Whole, Element, Square, CallTree, ReadCall, ResetCall, WriteCall, StmtTree, Nothing, Declare, Assigned, Call, Write, Block, If, While, For, Forall, Coforall, On, Body, WordBody, BlockBody, Stmts, NoStmts, Then, Else, NoElse, ElseDo, ProgramTree}
+use Rattle.dpl_language.specs.Tree.{ArgumentTree, TextArgument, ExprArgument, WriteTree, WithTree, VariablesTree, OneVariable, ManyVariables, TargetTree, Whole, Element, Square, CallTree, ReadCall, ResetCall, WriteCall, LoopWord, ForWord, ForallWord, CoforallWord, StmtTree, Nothing, Declare, Assigned, Call, Write, Block, If, Headed, Loop, Body, WordBody, BlockBody, Stmts, NoStmts, Then, Else, NoElse, ElseDo, ProgramTree}
 use Rattle.dpl_language.specs.Arithmetic.{assign_divides}
 use Rattle.dpl_language.specs.Phrases.{bare_name, cell_read, ReadTree, item_read, item_over, intents_of}
 use Rattle.dpl_language.specs.Declarations.{type_of}
 use Rattle.dpl_lowered.specs.Known.{Known, may_be_array, may_be_whole}
-use Rattle.dpl_lowered.specs.Shapes.{nowhere, placed, unplaced, relisted, as_expr, as_item, hidden, hidden_item, item_in_brackets}
+use Rattle.dpl_lowered.specs.Shapes.{nowhere, kept, placed, unplaced, relisted, as_expr, as_item, hidden, hidden_item, item_in_brackets}
 use Rattle.dpl_lowered.specs.LoweredExpressions.{Times, Once, EachTurn, lowered_expr, lowered_item, lowered_items}
-use Rattle.dpl_lowered.specs.LoweredStatements.{mapped_initial, written_initial, ranked_type, root_type, block_map, cyclic_map, block_cyclic_map, mapped_by, low_tree, created_map, lowered_start, lowered_map, lowered_mapped, lowered_init_map, lowered_with, map_by, default_tree, written_type, tells_name, unplaced_word, lowered_variables, with_intents, lowered_sign, times_by, lowered_side, lowered_over, lowered_init, plain_initial, lowered_initial, array_init, array_initial, declared_type, declared_initial, lowered_declare, lowered_target, target_sign, target_times, lowered_call, array_name, lowered_shown, lowered_argument, lowered_write, lowered_stmt, lowered_body, lowered_stmts, lowered_else, lowered_program}
+use Rattle.dpl_lowered.specs.LoweredStatements.{mapped_initial, written_initial, ranked_type, root_type, block_map, cyclic_map, block_cyclic_map, mapped_by, low_tree, created_map, lowered_start, lowered_map, lowered_mapped, lowered_init_map, lowered_with, map_by, default_tree, written_type, tells_name, unplaced_word, lowered_variables, with_intents, lowered_intents, tells_head, lowered_sign, times_by, lowered_side, lowered_over, lowered_init, plain_initial, lowered_initial, array_init, array_initial, declared_type, declared_initial, lowered_declare, lowered_target, target_sign, target_times, lowered_call, array_name, lowered_shown, lowered_argument, lowered_write, lowered_stmt, lowered_body, lowered_stmts, lowered_else, lowered_program}
 use Rattle.dpl_lowered.proofs.Seen.{Either, NoRead, NoName, either, array_name-none}
 use Rattle.dpl_lowered.proofs.Parts.{intents_of-made, type_of-written}
 use Rattle.dpl_lowered.proofs.Formed.{IsFormed, as_expr-as_item, as_item-as_expr, lowered-formed, item-formed}
@@ -270,6 +270,11 @@ module _ {N : Type 0} (known : N → Known) where
       (option-twice (relisted (lowered_argument known)) (relisted-twice (lowered_argument known) argument-twice) w.arguments)
 
   -- STATEMENTS
+  intents-twice : (word : LoopWord) (w : Option (WithTree N)) → lowered_intents word (lowered_intents word w) ≡ lowered_intents word w
+  intents-twice ForWord w = refl
+  intents-twice ForallWord w = ap with_intents (intents_of-made (intents_of w))
+  intents-twice CoforallWord w = refl
+
   mutual
     pub stmt-twice : (t : StmtTree N) → lowered_stmt known (lowered_stmt known t) ≡ lowered_stmt known t
     stmt-twice (Nothing at) = refl
@@ -285,22 +290,17 @@ module _ {N : Type 0} (known : N → Known) where
         ap (λ e. If nowhere e (lowered_body known (lowered_body known first)) (lowered_else known (lowered_else known second))) (expr-twice known Once e)
         ∙ ap (λ b. If nowhere (lowered_expr known Once e) b (lowered_else known (lowered_else known second))) (body-twice first)
         ∙ ap (If nowhere (lowered_expr known Once e) (lowered_body known first)) (else-twice second)
-    stmt-twice (While at e body) =
-        ap (λ e. While at e (lowered_body known (lowered_body known body))) (expr-twice known Once e) ∙ ap (While at (lowered_expr known Once e)) (body-twice body)
-    stmt-twice (For at xs word item body) =
-        ap (λ xs. For at xs nowhere (lowered_item known Once (lowered_item known Once item)) (lowered_body known (lowered_body known body))) (variables-twice xs)
-        ∙ ap (λ i. For at (lowered_variables xs) nowhere i (lowered_body known (lowered_body known body))) (item-twice known Once item)
-        ∙ ap (For at (lowered_variables xs) nowhere (lowered_item known Once item)) (body-twice body)
-    stmt-twice (Forall at xs word item intents body) =
-        ap (λ xs. Forall at xs nowhere (lowered_item known Once (lowered_item known Once item)) (with_intents (intents_of (with_intents (intents_of intents)))) (lowered_body known (lowered_body known body))) (variables-twice xs)
-        ∙ ap (λ i. Forall at (lowered_variables xs) nowhere i (with_intents (intents_of (with_intents (intents_of intents)))) (lowered_body known (lowered_body known body))) (item-twice known Once item)
-        ∙ ap (λ ps. Forall at (lowered_variables xs) nowhere (lowered_item known Once item) (with_intents ps) (lowered_body known (lowered_body known body))) (intents_of-made (intents_of intents))
-        ∙ ap (Forall at (lowered_variables xs) nowhere (lowered_item known Once item) (with_intents (intents_of intents))) (body-twice body)
-    stmt-twice (Coforall at xs word item intents body) =
-        ap (λ xs. Coforall at xs nowhere (lowered_item known Once (lowered_item known Once item)) None (lowered_body known (lowered_body known body))) (variables-twice xs)
-        ∙ ap (λ i. Coforall at (lowered_variables xs) nowhere i None (lowered_body known (lowered_body known body))) (item-twice known Once item)
-        ∙ ap (Coforall at (lowered_variables xs) nowhere (lowered_item known Once item) None) (body-twice body)
-    stmt-twice (On at e body) = ap (λ e. On nowhere e (lowered_body known (lowered_body known body))) (expr-twice known Once e) ∙ ap (On nowhere (lowered_expr known Once e)) (body-twice body)
+    stmt-twice (Headed word at e body) =
+        let there = kept (tells_head word) at in
+        ap (λ p. Headed word p (lowered_expr known Once (lowered_expr known Once e)) (lowered_body known (lowered_body known body))) (kept-kept (tells_head word) at)
+        ∙ ap (λ e. Headed word there e (lowered_body known (lowered_body known body))) (expr-twice known Once e)
+        ∙ ap (Headed word there (lowered_expr known Once e)) (body-twice body)
+    stmt-twice (Loop word at xs within item intents body) =
+        let with = lowered_intents word intents in
+        ap (λ xs. Loop word at xs nowhere (lowered_item known Once (lowered_item known Once item)) (lowered_intents word with) (lowered_body known (lowered_body known body))) (variables-twice xs)
+        ∙ ap (λ i. Loop word at (lowered_variables xs) nowhere i (lowered_intents word with) (lowered_body known (lowered_body known body))) (item-twice known Once item)
+        ∙ ap (λ w. Loop word at (lowered_variables xs) nowhere (lowered_item known Once item) w (lowered_body known (lowered_body known body))) (intents-twice word intents)
+        ∙ ap (Loop word at (lowered_variables xs) nowhere (lowered_item known Once item) with) (body-twice body)
 
     body-twice : (b : Body N) → lowered_body known (lowered_body known b) ≡ lowered_body known b
     body-twice (WordBody at t) = ap (λ t. BlockBody nowhere (Then t NoStmts) nowhere) (stmt-twice t)

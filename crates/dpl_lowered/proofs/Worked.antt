@@ -4,7 +4,7 @@ use Rattle.std.proofs.Common.{◌≡◌, ℕ, pos, true, false, [], ◌∷◌, r
 use Rattle.std.specs.Prelude.{codes}
 use Rattle.dpl_syntax.specs.declared.place.Place.{Place}
 use Rattle.dpl_language.specs.Tree.{Placed, AfterComma, Minus, Subtract, Divide, Remainder, And, Sum, AssignTree, Assign, Set, SetDivide, IntKind, BoolKind, Closed, Counted, Size, First, DomainOf, Word, ReadFEWord, WriteEFWord, ExprTree, Number, TruthWord, Named, LocalesWord, HereWord, Grouped, DomainLiteral, Prefixed, Reduced, Chain, Postfixed, ItemTree, One, RangeItem, NoStride, By, NoLinks, Link, NoPosts, Post, PostTree, Brackets, Rounds, Dotted, Plainly, Dim, Contains, Expand, CellRead, Items, FirstItem, NoItems, NextItem, Exprs, FirstExpr, NoExprs}
-use Rattle.dpl_language.specs.Tree.{BlockMap, MappedTree, TypeTree, ScalarType, SyncType, DomainType, ArrayType, InitTree, ItemInit, CreateBlock, CreateInit, InitialTree, DeclareTree, TextArgument, ExprArgument, IntentTree, ReduceIntent, RefIntent, WithTree, StmtTree, OneVariable, ManyVariables, Whole, Element, Square, Round, WriteCall, Nothing, Assigned, Call, Write, If, While, For, Forall, Coforall, On, Body, WordBody, BlockBody, NoStmts, Then, ElseDo, BlockModule}
+use Rattle.dpl_language.specs.Tree.{BlockMap, MappedTree, TypeTree, ScalarType, SyncType, DomainType, ArrayType, InitTree, ItemInit, CreateBlock, CreateInit, InitialTree, DeclareTree, TextArgument, ExprArgument, IntentTree, ReduceIntent, RefIntent, WithTree, WhileWord, OnWord, ForWord, ForallWord, CoforallWord, StmtTree, OneVariable, ManyVariables, Whole, Element, Square, Round, WriteCall, Nothing, Assigned, Call, Write, If, Headed, Loop, Body, WordBody, BlockBody, NoStmts, Then, ElseDo, BlockModule}
 use Rattle.dpl_lowered.specs.Known.{Known, WholeArray, PlainValue, nothing_known}
 use Rattle.dpl_lowered.specs.Shapes.{nowhere, two}
 use Rattle.dpl_lowered.specs.LoweredExpressions.{Once, EachTurn, lowered_expr, lowered_item}
@@ -393,12 +393,12 @@ branches : lowered_stmt nothing_known (If gone (Named (name 4 0)) (WordBody gone
 branches = refl
 
 -- while x { }: its word is told
-while_loop : lowered_stmt nothing_known (While (at 1) (Named (name 7 0)) empty_block) ≡ While (at 1) (Named (bare 0)) no_statements
+while_loop : lowered_stmt nothing_known (Headed WhileWord (at 1) (Named (name 7 0)) empty_block) ≡ Headed WhileWord (at 1) (Named (bare 0)) no_statements
 while_loop = refl
 
 -- for (i, j) in D { }: so is its
-for_loop : lowered_stmt nothing_known (For (at 1) (ManyVariables gone (record { first = name 6 0; others = record { comma = gone; part = name 9 1 } ∷ [] }) gone) gone (One (Named (name 15 2))) empty_block)
-    ≡ For (at 1) (ManyVariables nowhere (record { first = bare 0; others = record { comma = nowhere; part = bare 1 } ∷ [] }) nowhere) nowhere (One (Named (bare 2))) no_statements
+for_loop : lowered_stmt nothing_known (Loop ForWord (at 1) (ManyVariables gone (record { first = name 6 0; others = record { comma = gone; part = name 9 1 } ∷ [] }) gone) gone (One (Named (name 15 2))) None empty_block)
+    ≡ Loop ForWord (at 1) (ManyVariables nowhere (record { first = bare 0; others = record { comma = nowhere; part = bare 1 } ∷ [] }) nowhere) nowhere (One (Named (bare 2))) None no_statements
 for_loop = refl
 
 -- with ( .. )
@@ -410,10 +410,10 @@ referring = RefIntent gone (name 20 5)
 
 -- forall i in D with ( .. ) { }
 abbrev loop : Option (WithTree ℕ) → StmtTree ℕ
-loop with = Forall (at 1) (OneVariable (name 8 0)) gone (One (Named (name 13 2))) with empty_block
+loop with = Loop ForallWord (at 1) (OneVariable (name 8 0)) gone (One (Named (name 13 2))) with empty_block
 
 abbrev lowered_loop : Option (WithTree ℕ) → StmtTree ℕ
-lowered_loop with = Forall (at 1) (OneVariable (bare 0)) nowhere (One (Named (bare 2))) with no_statements
+lowered_loop with = Loop ForallWord (at 1) (OneVariable (bare 0)) nowhere (One (Named (bare 2))) with no_statements
 
 -- with (ref A, + reduce s): the reduce intent alone
 reduce_intent : lowered_stmt nothing_known (loop (intents gone referring (record { comma = gone; part = ReduceIntent gone Sum gone (name 36 3) } ∷ []))) ≡ lowered_loop (intents nowhere (ReduceIntent nowhere Sum nowhere (bare 3)) [])
@@ -424,12 +424,12 @@ no_intent : lowered_stmt nothing_known (loop (intents gone referring [])) ≡ lo
 no_intent = refl
 
 -- and a coforall has none
-coforall : lowered_stmt nothing_known (Coforall (at 1) (OneVariable (name 10 0)) gone (One (Named (name 15 2))) (intents gone referring []) empty_block)
-    ≡ Coforall (at 1) (OneVariable (bare 0)) nowhere (One (Named (bare 2))) None no_statements
+coforall : lowered_stmt nothing_known (Loop CoforallWord (at 1) (OneVariable (name 10 0)) gone (One (Named (name 15 2))) (intents gone referring []) empty_block)
+    ≡ Loop CoforallWord (at 1) (OneVariable (bare 0)) nowhere (One (Named (bare 2))) None no_statements
 coforall = refl
 
 -- on here { }: nothing is told
-on_a_locale : lowered_stmt nothing_known (On gone (HereWord gone) empty_block) ≡ On nowhere (HereWord nowhere) no_statements
+on_a_locale : lowered_stmt nothing_known (Headed OnWord gone (HereWord gone) empty_block) ≡ Headed OnWord nowhere (HereWord nowhere) no_statements
 on_a_locale = refl
 
 -- use BlockDist; ;

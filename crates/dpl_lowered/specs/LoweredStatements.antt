@@ -4,7 +4,7 @@
 use Rattle.std.specs.Prelude.{ℕ, pos, Bool, true, false, ◌||◌, if◌then◌else◌, Option, Some, None, List, [], ◌∷◌, map, option_map}
 use Rattle.dpl_syntax.specs.declared.place.Place.{Place}
 use Rattle.dpl_language.specs.Tree.{Placed, AfterComma, Op, Kind, IntKind, BoolKind, AssignTree, ExprTree, Number, TruthWord, DomainLiteral, Postfixed, ItemTree, One, NoPosts, Post, Dotted, Plainly, Low, Items, FirstItem, NoItems, NextItem, StartTree, StartExpr, StartTuple, MapTree, BlockMap, CyclicMap, BlockCyclicMap, MappedTree, ArrayTypeTree, TypeTree, ScalarType, SyncType, DomainType, ArrayType, DomainTypeTree, CreateWord, CreateBlock, CreateCyclic, CreateTree, InitTree, ItemInit, CreateInit, TypedTree, InitialTree, DeclareTree}
-use Rattle.dpl_language.specs.Tree.{ArgumentTree, TextArgument, ExprArgument, WriteTree, IntentTree, ReduceIntent, WithTree, VariablesTree, OneVariable, ManyVariables, TargetTree, Whole, Element, Square, CallTree, ReadCall, ResetCall, WriteCall, StmtTree, Nothing, Declare, Assigned, Call, Write, Block, If, While, For, Forall, Coforall, On, Body, WordBody, BlockBody, Stmts, NoStmts, Then, Else, NoElse, ElseDo, ProgramTree}
+use Rattle.dpl_language.specs.Tree.{ArgumentTree, TextArgument, ExprArgument, WriteTree, IntentTree, ReduceIntent, WithTree, VariablesTree, OneVariable, ManyVariables, TargetTree, Whole, Element, Square, CallTree, ReadCall, ResetCall, WriteCall, HeadWord, WhileWord, OnWord, LoopWord, ForWord, ForallWord, CoforallWord, StmtTree, Nothing, Declare, Assigned, Call, Write, Block, If, Headed, Loop, Body, WordBody, BlockBody, Stmts, NoStmts, Then, Else, NoElse, ElseDo, ProgramTree}
 use Rattle.dpl_language.specs.Arithmetic.{assign_divides}
 use Rattle.dpl_language.specs.Phrases.{bare_name, cell_read, item_read, item_over, intents_of}
 use Rattle.dpl_language.specs.Declarations.{type_of}
@@ -110,6 +110,17 @@ with_intents {N} (p ∷ ps) = Some (record {
   intents = record { first = reduce_intent p; others = map {A = N × Op} {B = AfterComma (IntentTree N)} behind_comma ps };
   upto = nowhere;
 })
+
+-- a coforall asks for no intents
+abbrev pub lowered_intents : {N : Type 0} → LoopWord → Option (WithTree N) → Option (WithTree N)
+lowered_intents ForWord w = None
+lowered_intents ForallWord w = with_intents (intents_of w)
+lowered_intents CoforallWord w = None
+
+-- a budget that is used up, and too many tasks, are told at a loop's first word
+abbrev pub tells_head : HeadWord → Bool
+tells_head WhileWord = true
+tells_head OnWord = false
 
 -- an assignment's operator, with its place where a fault may tell it
 abbrev pub lowered_sign : Bool → AssignTree → AssignTree
@@ -278,17 +289,9 @@ module _ {N : Type 0} (known : N → Known) where
     lowered_stmt (Block from body upto) = Block nowhere (lowered_stmts body) nowhere
     lowered_stmt (If at e first second) =
         If nowhere (lowered_expr known Once e) (lowered_body first) (lowered_else second)
-    -- a budget that is used up, and too many tasks, are told at a loop's first word
-    lowered_stmt (While at e body) = While at (lowered_expr known Once e) (lowered_body body)
-    lowered_stmt (For at xs word item body) =
-        For at (lowered_variables xs) nowhere (lowered_item known Once item) (lowered_body body)
-    lowered_stmt (Forall at xs word item intents body) =
-        Forall at (lowered_variables xs) nowhere (lowered_item known Once item) (with_intents (intents_of intents))
-        (lowered_body body)
-    -- a coforall asks for no intents
-    lowered_stmt (Coforall at xs word item intents body) =
-        Coforall at (lowered_variables xs) nowhere (lowered_item known Once item) None (lowered_body body)
-    lowered_stmt (On at e body) = On nowhere (lowered_expr known Once e) (lowered_body body)
+    lowered_stmt (Headed word at e body) = Headed word (kept (tells_head word) at) (lowered_expr known Once e) (lowered_body body)
+    lowered_stmt (Loop word at xs within item intents body) =
+        Loop word at (lowered_variables xs) nowhere (lowered_item known Once item) (lowered_intents word intents) (lowered_body body)
 
     -- a body is a list of statements: `do` and one statement is a list of one, which opens no other scope
     pub lowered_body : Body N → Body N

@@ -6,7 +6,7 @@ use Rattle.std.specs.Int.{int_wrap}
 use Rattle.std.specs.Fmt.{digits}
 use Rattle.dpl_sets.specs.Members.{members}
 use Rattle.dpl_sets.specs.Indices.{indices}
-use Rattle.dpl_language.specs.Tree.{Placed, IntKind, ScalarType, Number, TruthWord, Named, Chain, Link, NoLinks, Less, One, RangeItem, Closed, NoStride, ItemInit, Sum, AllOf, SetAdd, SetReduce, ReduceIntent, OneVariable, Whole, TextArgument, ExprArgument, Declare, Assigned, For, Forall, Write, WordBody, BlockBody, Then, NoStmts, ProgramTree}
+use Rattle.dpl_language.specs.Tree.{Placed, IntKind, ScalarType, Number, TruthWord, Named, Chain, Link, NoLinks, Less, One, RangeItem, Closed, NoStride, ItemInit, Sum, AllOf, SetAdd, SetReduce, ReduceIntent, OneVariable, Whole, TextArgument, ExprArgument, Declare, Assigned, Write, WordBody, BlockBody, Then, NoStmts, ProgramTree, Loop, ForWord, ForallWord}
 use Rattle.dpl_language.specs.Program.{written}
 use Rattle.dpl_agreement.specs.Renamed.{renamed_program}
 use Rattle.dpl_syntax.specs.declared.place.Place.{Place}
@@ -33,9 +33,9 @@ sums = record {
       (Then (Declare (declared None (at 1 13) false (name (codes "b") (at 1 17)) None (Some (initial (at 1 19) (ItemInit (One (TruthWord (at 1 21) true)) None))) (at 1 25)))
       (Then (Declare (declared None (at 1 27) true (name (codes "r") (at 1 33)) None
       (Some (initial (at 1 35) (ItemInit (RangeItem (Number (at 1 37) (pos 1)) (at 1 38) Closed (Number (at 1 40) (pos 4)) NoStride) None))) (at 1 41)))
-      (Then (For (at 1 43) (OneVariable (name (codes "i") (at 1 47))) (at 1 49) (One (Named (name (codes "r") (at 1 52))))
-      (WordBody (at 1 54) (Assigned (Whole (name (codes "s") (at 1 57))) (sign (at 1 59) SetAdd (at 1 59)) (One (Named (name (codes "i") (at 1 62)))) (at 1 63))))
-      (Then (Forall (at 1 65) (OneVariable (name (codes "j") (at 1 72))) (at 1 74) (One (Named (name (codes "r") (at 1 77))))
+      (Then (Loop ForWord (at 1 43) (OneVariable (name (codes "i") (at 1 47))) (at 1 49) (One (Named (name (codes "r") (at 1 52))))
+      None (WordBody (at 1 54) (Assigned (Whole (name (codes "s") (at 1 57))) (sign (at 1 59) SetAdd (at 1 59)) (One (Named (name (codes "i") (at 1 62)))) (at 1 63))))
+      (Then (Loop ForallWord (at 1 65) (OneVariable (name (codes "j") (at 1 72))) (at 1 74) (One (Named (name (codes "r") (at 1 77))))
       (Some (with_intents (at 1 79) (at 1 84)
       (listed (ReduceIntent (at 1 85) Sum (at 1 87) (name (codes "s") (at 1 94))) (after (at 1 95) (ReduceIntent (at 1 97) AllOf (at 1 100) (name (codes "b") (at 1 107))) ∷ []))
       (at 1 108)))
@@ -97,6 +97,7 @@ sums_fit = ( -- var s: int;
         (
           refl,
           SuitsTurns-ranges (One (Named (placed (codes "r") 52))) no_shape no_shape (seeing (top ∷ [])) (Suits-name (seeing (top ∷ [])) (placed (codes "r") 52) RangeLeaf refl refl),
+          tt,
           (record { unused = search rules; within = search rules; along = tt }, λ e. e),
           (((refl, refl, tt, tt), λ t. (refl, refl)), (λ t. (refl, refl), tt), Suits-name (seeing ([] ∷ (plainly (codes "i") ∷ []) ∷ top ∷ [])) (placed (codes "i") 62) IntLeaf refl refl),
         ),

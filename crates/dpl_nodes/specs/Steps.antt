@@ -2,7 +2,7 @@
 -- It is a lowered one over slots: each body is a list, and the places are those of faults alone.
 use Rattle.std.specs.Prelude.{ℕ, Bool, false, Option, Some, None, List, [], ◌∷◌, map, option_map}
 use Rattle.dpl_syntax.specs.declared.place.Place.{Place}
-use Rattle.dpl_language.specs.Tree.{Placed, AfterComma, Listed, Op, Assign, Set, SetAdd, SetSubtract, SetMultiply, SetDivide, SetRemainder, SetReduce, Kind, IntKind, BoolKind, ExprTree, Grouped, Items, ItemTree, One, Word, Low, LowBound, Plainly, StartTree, StartExpr, StartTuple, MapTree, MappedTree, CreateBlock, CreateCyclic, TypeTree, ArrayType, InitialTree, ArgumentTree, TextArgument, ExprArgument, VariablesTree, OneVariable, ManyVariables, Whole, Element, Square, StmtTree, Nothing, Declare, Assigned, Write, Block, If, While, For, Forall, Body, BlockBody, Stmts, NoStmts, Then, Else, NoElse, ElseDo}
+use Rattle.dpl_language.specs.Tree.{Placed, AfterComma, Listed, Op, Assign, Set, SetAdd, SetSubtract, SetMultiply, SetDivide, SetRemainder, SetReduce, Kind, IntKind, BoolKind, ExprTree, Grouped, Items, ItemTree, One, Word, Low, LowBound, Plainly, StartTree, StartExpr, StartTuple, MapTree, MappedTree, CreateBlock, CreateCyclic, TypeTree, ArrayType, InitialTree, ArgumentTree, TextArgument, ExprArgument, VariablesTree, OneVariable, ManyVariables, Whole, Element, Square, WhileWord, ForWord, ForallWord, StmtTree, Nothing, Declare, Assigned, Write, Block, If, Headed, Loop, Body, BlockBody, Stmts, NoStmts, Then, Else, NoElse, ElseDo}
 use Rattle.dpl_language.specs.Arithmetic.{assign_divides}
 use Rattle.dpl_lowered.specs.Shapes.{nowhere, kept}
 use Rattle.dpl_lowered.specs.LoweredExpressions.{EachTurn}
@@ -283,16 +283,16 @@ abbrev mutual
   step_view (Block' p shape row) = Block nowhere (steps_view row) nowhere
   step_view (If' condition p shape row otherwise) =
       If nowhere (truth_view condition.now) (listed (steps_view row)) (else_view otherwise)
-  step_view (While' at condition p shape row) = While at.now (truth_view condition.now) (listed (steps_view row))
+  step_view (While' at condition p shape row) = Headed WhileWord at.now (truth_view condition.now) (listed (steps_view row))
   step_view (For' at slot over p shape row) =
-      For at.now (variable_in slot) nowhere (range_item over.now) (listed (steps_view row))
+      Loop ForWord at.now (variable_in slot) nowhere (range_item over.now) None (listed (steps_view row))
   step_view (Forall' at slot over changed p shape row) =
-      Forall at.now (variable_in slot) nowhere (range_item over.now) (with_intents (map intent_view changed.now.reduced.now))
+      Loop ForallWord at.now (variable_in slot) nowhere (range_item over.now) (with_intents (map intent_view changed.now.reduced.now))
       (listed (steps_view row))
   step_view (ForEach' at names over p shape row) =
-      For at.now (names_view names) nowhere (One (domain_view over.now)) (listed (steps_view row))
+      Loop ForWord at.now (names_view names) nowhere (One (domain_view over.now)) None (listed (steps_view row))
   step_view (ForallEach' at names over changed p shape row) =
-      Forall at.now (names_view names) nowhere (One (domain_view over.now)) (with_intents (map intent_view changed.now.reduced.now))
+      Loop ForallWord at.now (names_view names) nowhere (One (domain_view over.now)) (with_intents (map intent_view changed.now.reduced.now))
       (listed (steps_view row))
 
   pub else_view : ElseNode → Else Variable

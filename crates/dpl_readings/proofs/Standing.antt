@@ -1,7 +1,7 @@
 -- A statement that may stand where it stands is read as the plain statement that it stands for.
 -- Each lemma has the reading on its left side.
-use Rattle.std.proofs.Common.{◌≡◌, List, [], ◌∷◌, refl, ap, ◌∙◌}
-use Rattle.dpl_language.specs.Tree.{One, StmtTree, Block, If, While, For, Then, ElseDo}
+use Rattle.std.proofs.Common.{◌≡◌, List, [], ◌∷◌, None, refl, ap, ◌∙◌}
+use Rattle.dpl_language.specs.Tree.{One, WhileWord, ForWord, StmtTree, Block, If, Headed, Loop, Then, ElseDo}
 use Rattle.dpl_lowered.specs.Shapes.{nowhere}
 use Rattle.dpl_memory.specs.Memory.{Variable}
 use Rattle.dpl_standing.specs.Standing.{Standing, Outside, InTurn, IsOutside, MayStand, AllMayStand, ElseMayStand}
@@ -33,12 +33,12 @@ mutual
   step_in-view w (If' condition p shape row otherwise) may =
       ap (λ ts. If nowhere (truth_view condition.now) (listed ts) (else_in w otherwise)) (row_in-view w row may.0)
       ∙ ap (If nowhere (truth_view condition.now) (listed (steps_view row))) (else_in-view w otherwise may.1)
-  step_in-view w (While' at condition p shape row) may = ap (λ ts. While at.now (truth_view condition.now) (listed ts)) (row_in-view w row may)
-  step_in-view w (For' at slot over p shape row) may = ap (λ ts. For at.now (variable_in slot) nowhere (range_item over.now) (listed ts)) (row_in-view w row may)
+  step_in-view w (While' at condition p shape row) may = ap (λ ts. Headed WhileWord at.now (truth_view condition.now) (listed ts)) (row_in-view w row may)
+  step_in-view w (For' at slot over p shape row) may = ap (λ ts. Loop ForWord at.now (variable_in slot) nowhere (range_item over.now) None (listed ts)) (row_in-view w row may.1)
   step_in-view w (Forall' at slot over changed p shape row) may =
       outside-itself w (forall_of at.now (variable_in slot) (range_item over.now) changed.now.reduced.now (row_in InTurn row)) may.0
       ∙ ap (forall_of at.now (variable_in slot) (range_item over.now) changed.now.reduced.now) (row_in-view InTurn row may.1)
-  step_in-view w (ForEach' at names over p shape row) may = ap (λ ts. For at.now (names_view names) nowhere (One (domain_view over.now)) (listed ts)) (row_in-view w row may)
+  step_in-view w (ForEach' at names over p shape row) may = ap (λ ts. Loop ForWord at.now (names_view names) nowhere (One (domain_view over.now)) None (listed ts)) (row_in-view w row may.1)
   step_in-view w (ForallEach' at names over changed p shape row) may =
       outside-itself w (forall_of at.now (names_view names) (One (domain_view over.now)) changed.now.reduced.now (row_in InTurn row)) may.0
       ∙ ap (forall_of at.now (names_view names) (One (domain_view over.now)) changed.now.reduced.now) (row_in-view InTurn row may.1)

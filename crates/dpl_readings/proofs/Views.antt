@@ -1,8 +1,8 @@
 -- Statements that hold lists, by what code that walks them knows of them.
 -- Each lemma has the node's view on its left side.
-use Rattle.std.proofs.Common.{◌≡◌, ℕ, Bor, List, refl, ap, ◌∙◌}
+use Rattle.std.proofs.Common.{◌≡◌, ℕ, Bor, List, None, refl, ap, ◌∙◌}
 use Rattle.dpl_syntax.specs.declared.place.Place.{Place}
-use Rattle.dpl_language.specs.Tree.{One, Block, If, While, For, Then}
+use Rattle.dpl_language.specs.Tree.{One, Block, If, Headed, Loop, Then, WhileWord, ForWord}
 use Rattle.dpl_lowered.specs.Shapes.{nowhere}
 use Rattle.dpl_nodes.specs.declared.tree.BoolExpr.{BoolExpr}
 use Rattle.dpl_nodes.specs.declared.tree.RangeExpr.{RangeExpr}
@@ -32,19 +32,19 @@ module _ (w : Standing) where
   pub if_in : (e : Bor BoolExpr) (body : Bor (List Step)) (otherwise : ElseNode) → step_in w (IfStep e body otherwise) ≡ If nowhere (truth_view e.now) (listed (steps_in w body.now)) (else_in w otherwise)
   if_in e body otherwise = ap (λ ts. If nowhere (truth_view e.now) (listed ts) (else_in w otherwise)) (row_in-row w body.now)
 
-  pub while_in : (at : Bor Place) (e : Bor BoolExpr) (body : Bor (List Step)) → step_in w (WhileStep at e body) ≡ While at.now (truth_view e.now) (listed (steps_in w body.now))
-  while_in at e body = ap (λ ts. While at.now (truth_view e.now) (listed ts)) (row_in-row w body.now)
+  pub while_in : (at : Bor Place) (e : Bor BoolExpr) (body : Bor (List Step)) → step_in w (WhileStep at e body) ≡ Headed WhileWord at.now (truth_view e.now) (listed (steps_in w body.now))
+  while_in at e body = ap (λ ts. Headed WhileWord at.now (truth_view e.now) (listed ts)) (row_in-row w body.now)
 
-  pub for_in : (at : Bor Place) (slot : ℕ) (over : Bor RangeExpr) (body : Bor (List Step)) → step_in w (ForStep at slot over body) ≡ For at.now (variable_in slot) nowhere (range_item over.now) (listed (steps_in w body.now))
-  for_in at slot over body = ap (λ ts. For at.now (variable_in slot) nowhere (range_item over.now) (listed ts)) (row_in-row w body.now)
+  pub for_in : (at : Bor Place) (slot : ℕ) (over : Bor RangeExpr) (body : Bor (List Step)) → step_in w (ForStep at slot over body) ≡ Loop ForWord at.now (variable_in slot) nowhere (range_item over.now) None (listed (steps_in w body.now))
+  for_in at slot over body = ap (λ ts. Loop ForWord at.now (variable_in slot) nowhere (range_item over.now) None (listed ts)) (row_in-row w body.now)
 
   pub forall_line_in : (at : Bor Place) (slot : ℕ) (over : Bor RangeExpr) (changed : Bor Changed) (body : Bor (List Step))
       → step_in w (ForallStep at slot over changed body) ≡ outside w (forall_of at.now (variable_in slot) (range_item over.now) changed.now.reduced.now (steps_in InTurn body.now))
   forall_line_in at slot over changed body = ap (λ ts. outside w (forall_of at.now (variable_in slot) (range_item over.now) changed.now.reduced.now ts)) (row_in-row InTurn body.now)
 
   pub for_each_in : (at : Bor Place) (names : Names) (over : Bor DomainExpr) (body : Bor (List Step))
-      → step_in w (ForEachStep at names over body) ≡ For at.now (names_view names) nowhere (One (domain_view over.now)) (listed (steps_in w body.now))
-  for_each_in at names over body = ap (λ ts. For at.now (names_view names) nowhere (One (domain_view over.now)) (listed ts)) (row_in-row w body.now)
+      → step_in w (ForEachStep at names over body) ≡ Loop ForWord at.now (names_view names) nowhere (One (domain_view over.now)) None (listed (steps_in w body.now))
+  for_each_in at names over body = ap (λ ts. Loop ForWord at.now (names_view names) nowhere (One (domain_view over.now)) None (listed ts)) (row_in-row w body.now)
 
   pub forall_in : (at : Bor Place) (names : Names) (over : Bor DomainExpr) (changed : Bor Changed) (body : Bor (List Step))
       → step_in w (ForallEachStep at names over changed body) ≡ outside w (forall_of at.now (names_view names) (One (domain_view over.now)) changed.now.reduced.now (steps_in InTurn body.now))

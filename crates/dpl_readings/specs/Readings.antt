@@ -1,8 +1,8 @@
 -- What a typed statement is read as where it stands. In a turn a print and a forall are nothing, since none stands there; all else is
 -- the plain statement that it stands for.
-use Rattle.std.specs.Prelude.{List, [], ◌∷◌, map}
+use Rattle.std.specs.Prelude.{List, [], ◌∷◌, map, None}
 use Rattle.dpl_syntax.specs.declared.place.Place.{Place}
-use Rattle.dpl_language.specs.Tree.{ItemTree, One, VariablesTree, StmtTree, Nothing, Block, If, While, For, Forall, Stmts, NoStmts, Then, Else, NoElse, ElseDo}
+use Rattle.dpl_language.specs.Tree.{ItemTree, One, VariablesTree, WhileWord, ForWord, ForallWord, StmtTree, Nothing, Block, If, Headed, Loop, Stmts, NoStmts, Then, Else, NoElse, ElseDo}
 use Rattle.dpl_lowered.specs.Shapes.{nowhere}
 use Rattle.dpl_lowered.specs.LoweredStatements.{with_intents}
 use Rattle.dpl_memory.specs.Memory.{Variable}
@@ -20,7 +20,7 @@ outside InTurn t = Nothing nowhere
 
 -- a forall with these reduce variables, by its body
 abbrev pub forall_of : Place → VariablesTree Variable → ItemTree Variable → List Intent → Stmts Variable → StmtTree Variable
-forall_of at xs item intents body = Forall at xs nowhere item (with_intents (map intent_view intents)) (listed body)
+forall_of at xs item intents body = Loop ForallWord at xs nowhere item (with_intents (map intent_view intents)) (listed body)
 
 abbrev mutual
   pub step_in : Standing → Step → StmtTree Variable
@@ -38,11 +38,11 @@ abbrev mutual
   step_in w (WriteStep ends_line arguments) = outside w (written_as ends_line arguments.now)
   step_in w (Block' p shape row) = Block nowhere (row_in w row) nowhere
   step_in w (If' condition p shape row otherwise) = If nowhere (truth_view condition.now) (listed (row_in w row)) (else_in w otherwise)
-  step_in w (While' at condition p shape row) = While at.now (truth_view condition.now) (listed (row_in w row))
-  step_in w (For' at slot over p shape row) = For at.now (variable_in slot) nowhere (range_item over.now) (listed (row_in w row))
+  step_in w (While' at condition p shape row) = Headed WhileWord at.now (truth_view condition.now) (listed (row_in w row))
+  step_in w (For' at slot over p shape row) = Loop ForWord at.now (variable_in slot) nowhere (range_item over.now) None (listed (row_in w row))
   step_in w (Forall' at slot over changed p shape row) =
       outside w (forall_of at.now (variable_in slot) (range_item over.now) changed.now.reduced.now (row_in InTurn row))
-  step_in w (ForEach' at names over p shape row) = For at.now (names_view names) nowhere (One (domain_view over.now)) (listed (row_in w row))
+  step_in w (ForEach' at names over p shape row) = Loop ForWord at.now (names_view names) nowhere (One (domain_view over.now)) None (listed (row_in w row))
   step_in w (ForallEach' at names over changed p shape row) =
       outside w (forall_of at.now (names_view names) (One (domain_view over.now)) changed.now.reduced.now (row_in InTurn row))
 

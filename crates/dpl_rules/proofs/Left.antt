@@ -1,7 +1,7 @@
 -- Scopes that are left: behind whatever was declared in a scope, leaving it gives the scopes around it.
 -- Each lemma has the scopes that are left on its left side.
 use Rattle.std.proofs.Common.{◌≡◌, List, [], ◌∷◌, drop, Option, refl, ap, ◌∙◌}
-use Rattle.dpl_language.specs.Tree.{Placed, StmtTree, Nothing, Declare, Assigned, Call, Write, Block, If, While, For, Forall, Coforall, On, Stmts, NoStmts, Then}
+use Rattle.dpl_language.specs.Tree.{Placed, StmtTree, Declare, Stmts, NoStmts, Then}
 use Rattle.dpl_language.specs.Names.{Text}
 use Rattle.dpl_rules.specs.Types.{ValueType}
 use Rattle.dpl_rules.specs.Sights.{Scope, Scopes, LoopVariable, origin_in}
@@ -11,32 +11,12 @@ use Rattle.dpl_rules.specs.Sound.{behind_all}
 
 -- behind a statement the innermost scope may have one more name, and the others are as they were
 abbrev behind_here : Scope → Scopes → StmtTree Text → Scope
-behind_here s ss (Nothing at) = s
 behind_here s ss (Declare d) = declared_by (s ∷ ss) d ∷ s
-behind_here s ss (Assigned target sign item semicolon) = s
-behind_here s ss (Call x dot call semicolon) = s
-behind_here s ss (Write w) = s
-behind_here s ss (Block from ts upto) = s
-behind_here s ss (If at e first second) = s
-behind_here s ss (While at e body) = s
-behind_here s ss (For at xs word item body) = s
-behind_here s ss (Forall at xs word item intents body) = s
-behind_here s ss (Coforall at xs word item intents body) = s
-behind_here s ss (On at e body) = s
+behind_here s ss _ = s
 
 behind_open : (s : Scope) (ss : Scopes) (t : StmtTree Text) → behind (s ∷ ss) t ≡ behind_here s ss t ∷ ss
-behind_open s ss (Nothing at) = refl
 behind_open s ss (Declare d) = refl
-behind_open s ss (Assigned target sign item semicolon) = refl
-behind_open s ss (Call x dot call semicolon) = refl
-behind_open s ss (Write w) = refl
-behind_open s ss (Block from ts upto) = refl
-behind_open s ss (If at e first second) = refl
-behind_open s ss (While at e body) = refl
-behind_open s ss (For at xs word item body) = refl
-behind_open s ss (Forall at xs word item intents body) = refl
-behind_open s ss (Coforall at xs word item intents body) = refl
-behind_open s ss (On at e body) = refl
+behind_open s ss _ = refl
 
 pub leave_behind : (s : Scope) (ss : Scopes) (t : StmtTree Text) → drop 1 (behind (s ∷ ss) t) ≡ ss
 leave_behind s ss t = ap (drop 1) (behind_open s ss t)

@@ -2,10 +2,10 @@
 -- Each row stands behind its text; those behind the house's line are on line 2. A script spelled the trees, which nobody has to trust.
 use Rattle.std.proofs.Common.{◌≡◌, [], ◌∷◌, refl, Some, None, true, false}
 use Rattle.std.specs.Prelude.{pos, codes}
-use Rattle.dpl_language.specs.Tree.{Add, ArrayType, Assigned, BlockBody, BoolKind, Brackets, CellRead, Chain, Closed, Coforall, Declare, Dotted, Element, ExprArgument}
-use Rattle.dpl_language.specs.Tree.{FirstExpr, FirstItem, For, Forall, Grouped, IntKind, ItemInit, Link, ManyVariables, Named, NoExprs, NoItems, NoLinks, NoPosts}
+use Rattle.dpl_language.specs.Tree.{Add, ArrayType, Assigned, BlockBody, BoolKind, Brackets, CellRead, Chain, Closed, Declare, Dotted, Element, ExprArgument}
+use Rattle.dpl_language.specs.Tree.{FirstExpr, FirstItem, Grouped, IntKind, ItemInit, Link, ManyVariables, Named, NoExprs, NoItems, NoLinks, NoPosts}
 use Rattle.dpl_language.specs.Tree.{NoStmts, NoStride, Not, Nothing, Number, One, OneVariable, Plainly, Post, Postfixed, Prefixed, RangeItem, ReadFEWord, ReduceIntent}
-use Rattle.dpl_language.specs.Tree.{ScalarType, Set, Size, Square, Subtract, Sum, SyncType, Then, TruthWord, Whole, WordBody, Write}
+use Rattle.dpl_language.specs.Tree.{ScalarType, Set, Size, Square, Subtract, Sum, SyncType, Then, TruthWord, Whole, WordBody, Write, Loop, ForWord, ForallWord, CoforallWord}
 use Rattle.dpl_language.proofs.Spelled.{at, name, after, array_type, declared, initial, listed, sign, typed, with_intents, written_line}
 use Rattle.dpl_syntax.specs.declared.refusal.Code.TheVariants.{CellMisused, ConstantWritten, NameTwice, NotInCoforall, NotInForall, OuterChanged, UnknownName, WrittenElsewhere, WrongRank, WrongType}
 use Rattle.dpl_rules.proofs.House.{broken, all_of}
@@ -35,7 +35,7 @@ declared_again = refl
 refused_array : all_of
     (Then (Declare (declared None (at 1 1) false (name (codes "A") (at 1 5)) (Some (typed (at 1 6) (ArrayType (array_type (at 1 8)
     (FirstItem (RangeItem (Number (at 1 9) (pos 1)) (at 1 10) Closed (TruthWord (at 1 12) true) NoStride) NoItems) (at 1 16)
-    (at 1 18) IntKind)))) None (at 1 21))) (Then (Forall (at 1 23) (OneVariable (name (codes "i") (at 1 30))) (at 1 32) (RangeItem
+    (at 1 18) IntKind)))) None (at 1 21))) (Then (Loop ForallWord (at 1 23) (OneVariable (name (codes "i") (at 1 30))) (at 1 32) (RangeItem
     (Number (at 1 35) (pos 1)) (at 1 36) Closed (Number (at 1 38) (pos 2)) NoStride) None (WordBody (at 1 40) (Assigned (Element
     (name (codes "A") (at 1 43)) Square (at 1 44) (FirstExpr (Number (at 1 45) (pos 1)) NoExprs) (at 1 46)) (sign (at 1 48) Set
     (at 1 48)) (One (Postfixed (Named (name (codes "A") (at 1 50))) (Post (Brackets (at 1 51) (FirstItem (One (Chain (Named
@@ -45,7 +45,7 @@ refused_array = refl
 
 -- for i in 1 { const x = true + i; }
 refused_loop : all_of
-    (Then (For (at 1 1) (OneVariable (name (codes "i") (at 1 5))) (at 1 7) (One (Number (at 1 10) (pos 1))) (BlockBody (at 1 12)
+    (Then (Loop ForWord (at 1 1) (OneVariable (name (codes "i") (at 1 5))) (at 1 7) (One (Number (at 1 10) (pos 1))) None (BlockBody (at 1 12)
     (Then (Declare (declared None (at 1 14) true (name (codes "x") (at 1 20)) None (Some (initial (at 1 22) (ItemInit (One (Chain
     (TruthWord (at 1 24) true) (Link (at 1 29) Add (Named (name (codes "i") (at 1 31))) NoLinks))) None))) (at 1 32))) NoStmts)
     (at 1 34))) NoStmts) ≡ broken 1 10 WrongType ∷ []
@@ -53,8 +53,8 @@ refused_loop = refl
 
 -- for (i, j) in 1..2 { const x = i + true; }
 too_many_variables : all_of
-    (Then (For (at 1 1) (ManyVariables (at 1 5) (listed (name (codes "i") (at 1 6)) (after (at 1 7) (name (codes "j") (at 1 9)) ∷
-    [])) (at 1 10)) (at 1 12) (RangeItem (Number (at 1 15) (pos 1)) (at 1 16) Closed (Number (at 1 18) (pos 2)) NoStride) (BlockBody
+    (Then (Loop ForWord (at 1 1) (ManyVariables (at 1 5) (listed (name (codes "i") (at 1 6)) (after (at 1 7) (name (codes "j") (at 1 9)) ∷
+    [])) (at 1 10)) (at 1 12) (RangeItem (Number (at 1 15) (pos 1)) (at 1 16) Closed (Number (at 1 18) (pos 2)) NoStride) None (BlockBody
     (at 1 20) (Then (Declare (declared None (at 1 22) true (name (codes "x") (at 1 28)) None (Some (initial (at 1 30) (ItemInit (One
     (Chain (Named (name (codes "i") (at 1 32))) (Link (at 1 34) Add (TruthWord (at 1 36) true) NoLinks))) None))) (at 1 40)))
     NoStmts) (at 1 42))) NoStmts) ≡ broken 1 5 WrongRank ∷ []
@@ -92,7 +92,7 @@ index_refused = refl
 -- const k = 1; forall i in 1..2 do k = true;
 several_at_one_place : all_of
     (Then (Declare (declared None (at 1 1) true (name (codes "k") (at 1 7)) None (Some (initial (at 1 9) (ItemInit (One (Number
-    (at 1 11) (pos 1))) None))) (at 1 12))) (Then (Forall (at 1 14) (OneVariable (name (codes "i") (at 1 21))) (at 1 23) (RangeItem
+    (at 1 11) (pos 1))) None))) (at 1 12))) (Then (Loop ForallWord (at 1 14) (OneVariable (name (codes "i") (at 1 21))) (at 1 23) (RangeItem
     (Number (at 1 26) (pos 1)) (at 1 27) Closed (Number (at 1 29) (pos 2)) NoStride) None (WordBody (at 1 31) (Assigned (Whole
     (name (codes "k") (at 1 34))) (sign (at 1 36) Set (at 1 36)) (One (TruthWord (at 1 38) true)) (at 1 42)))) NoStmts)) ≡ broken 1 34 OuterChanged ∷ broken 1 34 ConstantWritten ∷ broken 1 38 WrongType ∷ []
 several_at_one_place = refl
@@ -100,8 +100,8 @@ several_at_one_place = refl
 -- var n: int; forall i in 1..2 { forall j in 1..2 with (+ reduce n) do ; }
 inner_forall_with_an_intent : all_of
     (Then (Declare (declared None (at 1 1) false (name (codes "n") (at 1 5)) (Some (typed (at 1 6) (ScalarType (at 1 8) IntKind)))
-    None (at 1 11))) (Then (Forall (at 1 13) (OneVariable (name (codes "i") (at 1 20))) (at 1 22) (RangeItem (Number (at 1 25) (pos
-    1)) (at 1 26) Closed (Number (at 1 28) (pos 2)) NoStride) None (BlockBody (at 1 30) (Then (Forall (at 1 32) (OneVariable
+    None (at 1 11))) (Then (Loop ForallWord (at 1 13) (OneVariable (name (codes "i") (at 1 20))) (at 1 22) (RangeItem (Number (at 1 25) (pos
+    1)) (at 1 26) Closed (Number (at 1 28) (pos 2)) NoStride) None (BlockBody (at 1 30) (Then (Loop ForallWord (at 1 32) (OneVariable
     (name (codes "j") (at 1 39))) (at 1 41) (RangeItem (Number (at 1 44) (pos 1)) (at 1 45) Closed (Number (at 1 47) (pos 2))
     NoStride) (Some (with_intents (at 1 49) (at 1 54) (listed (ReduceIntent (at 1 55) Sum (at 1 57) (name (codes "n") (at 1 64)))
     []) (at 1 65))) (WordBody (at 1 67) (Nothing (at 1 70)))) NoStmts) (at 1 72))) NoStmts)) ≡ broken 1 32 NotInForall ∷ []
@@ -111,8 +111,8 @@ inner_forall_with_an_intent = refl
 inner_forall_writes : all_of
     (Then (Declare (declared None (at 1 1) false (name (codes "A") (at 1 5)) (Some (typed (at 1 6) (ArrayType (array_type (at 1 8)
     (FirstItem (RangeItem (Number (at 1 9) (pos 1)) (at 1 10) Closed (Number (at 1 12) (pos 2)) NoStride) NoItems) (at 1 13)
-    (at 1 15) IntKind)))) None (at 1 18))) (Then (Forall (at 1 20) (OneVariable (name (codes "i") (at 1 27))) (at 1 29) (RangeItem
-    (Number (at 1 32) (pos 1)) (at 1 33) Closed (Number (at 1 35) (pos 2)) NoStride) None (BlockBody (at 1 37) (Then (Forall
+    (at 1 15) IntKind)))) None (at 1 18))) (Then (Loop ForallWord (at 1 20) (OneVariable (name (codes "i") (at 1 27))) (at 1 29) (RangeItem
+    (Number (at 1 32) (pos 1)) (at 1 33) Closed (Number (at 1 35) (pos 2)) NoStride) None (BlockBody (at 1 37) (Then (Loop ForallWord
     (at 1 39) (OneVariable (name (codes "j") (at 1 46))) (at 1 48) (RangeItem (Number (at 1 51) (pos 1)) (at 1 52) Closed (Number
     (at 1 54) (pos 2)) NoStride) None (WordBody (at 1 56) (Assigned (Element (name (codes "A") (at 1 59)) Square (at 1 60)
     (FirstExpr (Named (name (codes "j") (at 1 61))) NoExprs) (at 1 62)) (sign (at 1 64) Set (at 1 64)) (One (Number (at 1 66) (pos
@@ -122,7 +122,7 @@ inner_forall_writes = refl
 -- var c: sync int; coforall i in 1..2 do write(c.readFE());
 print_of_a_cell_in_a_task : all_of
     (Then (Declare (declared None (at 1 1) false (name (codes "c") (at 1 5)) (Some (typed (at 1 6) (SyncType (at 1 8) (at 1 13)
-    IntKind))) None (at 1 16))) (Then (Coforall (at 1 18) (OneVariable (name (codes "i") (at 1 27))) (at 1 29) (RangeItem (Number
+    IntKind))) None (at 1 16))) (Then (Loop CoforallWord (at 1 18) (OneVariable (name (codes "i") (at 1 27))) (at 1 29) (RangeItem (Number
     (at 1 32) (pos 1)) (at 1 33) Closed (Number (at 1 35) (pos 2)) NoStride) None (WordBody (at 1 37) (Write (written_line (at 1 40)
     false (at 1 45) (Some (listed (ExprArgument (Postfixed (Named (name (codes "c") (at 1 46))) (Post (Dotted (at 1 47) (CellRead
     (at 1 48) ReadFEWord (at 1 54) (at 1 55))) NoPosts))) [])) (at 1 56) (at 1 57))))) NoStmts)) ≡ broken 1 40 NotInCoforall ∷ broken 1 46 CellMisused ∷ []

@@ -4,10 +4,10 @@ use Rattle.std.proofs.Common.{◌≡◌, ℕ, List, [], ◌∷◌, refl, Some, N
 use Rattle.std.specs.Prelude.{pos, negsuc, codes, flat_map}
 use Rattle.dpl_sets.specs.declared.subscript.Subscript.{Subscript}
 use Rattle.dpl_sets.specs.Subscripts.{subscript}
-use Rattle.dpl_language.specs.Tree.{Add, Assigned, BlockBody, Brackets, Chain, Declare, Divide, Element, FirstExpr, FirstItem, For, Grouped, If, ItemInit}
+use Rattle.dpl_language.specs.Tree.{Add, Assigned, BlockBody, Brackets, Chain, Declare, Divide, Element, FirstExpr, FirstItem, Grouped, If, ItemInit}
 use Rattle.dpl_language.specs.Tree.{Link, ManyVariables, Minus, Multiply, Named, NextItem, NoElse, NoExprs, NoItems, NoLinks, NoPosts, NoStmts, Number, One}
 use Rattle.dpl_language.specs.Tree.{OneVariable, Post, Postfixed, Prefixed, Remainder, Rounds, Set, SetAdd, Square, Subtract, Then, TruthWord, WordBody}
-use Rattle.dpl_language.specs.Tree.{StmtTree, Forall}
+use Rattle.dpl_language.specs.Tree.{ForWord, ForallWord, StmtTree, Loop}
 use Rattle.dpl_language.proofs.Spelled.{at, name, after, declared, initial, listed, sign}
 use Rattle.dpl_rules.specs.Types.{Origin}
 use Rattle.dpl_rules.specs.Sights.{Scopes}
@@ -30,7 +30,7 @@ shifts_of t = flat_map (λ f. shifted_reads (scope_in f) (deeds_in f)) (foralls 
 
 -- forall i in D do C[i] = A[i-1] + A[i+1] + A[i];
 neighbours : shifts_of
-    (Forall (at 2 1) (OneVariable (name (codes "i") (at 2 8))) (at 2 10) (One (Named (name (codes "D") (at 2 13)))) None (WordBody
+    (Loop ForallWord (at 2 1) (OneVariable (name (codes "i") (at 2 8))) (at 2 10) (One (Named (name (codes "D") (at 2 13)))) None (WordBody
     (at 2 15) (Assigned (Element (name (codes "C") (at 2 18)) Square (at 2 19) (FirstExpr (Named (name (codes "i") (at 2 20)))
     NoExprs) (at 2 21)) (sign (at 2 23) Set (at 2 23)) (One (Chain (Postfixed (Named (name (codes "A") (at 2 25))) (Post (Brackets
     (at 2 26) (FirstItem (One (Chain (Named (name (codes "i") (at 2 27))) (Link (at 2 28) Subtract (Number (at 2 29) (pos 1))
@@ -43,7 +43,7 @@ neighbours = refl
 
 -- forall i in D do C[i] = A[9-i] + A[1+i] + A[(i)+1] + A[i+(1)] + A[i+1-1] + A[i - -1] + A[i*2] + A[i/1] + A[i%8] + A[n] + A[n+1] + A[1];
 other_indices : shifts_of
-    (Forall (at 2 1) (OneVariable (name (codes "i") (at 2 8))) (at 2 10) (One (Named (name (codes "D") (at 2 13)))) None (WordBody
+    (Loop ForallWord (at 2 1) (OneVariable (name (codes "i") (at 2 8))) (at 2 10) (One (Named (name (codes "D") (at 2 13)))) None (WordBody
     (at 2 15) (Assigned (Element (name (codes "C") (at 2 18)) Square (at 2 19) (FirstExpr (Named (name (codes "i") (at 2 20)))
     NoExprs) (at 2 21)) (sign (at 2 23) Set (at 2 23)) (One (Chain (Postfixed (Named (name (codes "A") (at 2 25))) (Post (Brackets
     (at 2 26) (FirstItem (One (Chain (Number (at 2 27) (pos 9)) (Link (at 2 28) Subtract (Named (name (codes "i") (at 2 29)))
@@ -75,7 +75,7 @@ other_indices = refl
 
 -- forall i in D do C[i] = A[(i+1)] + A(((i)));
 brackets_round_an_index : shifts_of
-    (Forall (at 2 1) (OneVariable (name (codes "i") (at 2 8))) (at 2 10) (One (Named (name (codes "D") (at 2 13)))) None (WordBody
+    (Loop ForallWord (at 2 1) (OneVariable (name (codes "i") (at 2 8))) (at 2 10) (One (Named (name (codes "D") (at 2 13)))) None (WordBody
     (at 2 15) (Assigned (Element (name (codes "C") (at 2 18)) Square (at 2 19) (FirstExpr (Named (name (codes "i") (at 2 20)))
     NoExprs) (at 2 21)) (sign (at 2 23) Set (at 2 23)) (One (Chain (Postfixed (Named (name (codes "A") (at 2 25))) (Post (Brackets
     (at 2 26) (FirstItem (One (Grouped (at 2 27) (One (Chain (Named (name (codes "i") (at 2 28))) (Link (at 2 29) Add (Number
@@ -87,7 +87,7 @@ brackets_round_an_index = refl
 
 -- forall i in D do A[i] = A[i] + C[i+2];
 an_array_that_is_written : shifts_of
-    (Forall (at 2 1) (OneVariable (name (codes "i") (at 2 8))) (at 2 10) (One (Named (name (codes "D") (at 2 13)))) None (WordBody
+    (Loop ForallWord (at 2 1) (OneVariable (name (codes "i") (at 2 8))) (at 2 10) (One (Named (name (codes "D") (at 2 13)))) None (WordBody
     (at 2 15) (Assigned (Element (name (codes "A") (at 2 18)) Square (at 2 19) (FirstExpr (Named (name (codes "i") (at 2 20)))
     NoExprs) (at 2 21)) (sign (at 2 23) Set (at 2 23)) (One (Chain (Postfixed (Named (name (codes "A") (at 2 25))) (Post (Brackets
     (at 2 26) (FirstItem (One (Named (name (codes "i") (at 2 27)))) NoItems) (at 2 28)) NoPosts)) (Link (at 2 30) Add (Postfixed
@@ -98,7 +98,7 @@ an_array_that_is_written = refl
 
 -- forall (i, j) in E do C[i] = B[j-1, i] + B[i, i+3] + B[i, 1];
 two_variables : shifts_of
-    (Forall (at 2 1) (ManyVariables (at 2 8) (listed (name (codes "i") (at 2 9)) (after (at 2 10) (name (codes "j") (at 2 12)) ∷
+    (Loop ForallWord (at 2 1) (ManyVariables (at 2 8) (listed (name (codes "i") (at 2 9)) (after (at 2 10) (name (codes "j") (at 2 12)) ∷
     [])) (at 2 13)) (at 2 15) (One (Named (name (codes "E") (at 2 18)))) None (WordBody (at 2 20) (Assigned (Element
     (name (codes "C") (at 2 23)) Square (at 2 24) (FirstExpr (Named (name (codes "i") (at 2 25))) NoExprs) (at 2 26)) (sign
     (at 2 28) Set (at 2 28)) (One (Chain (Postfixed (Named (name (codes "B") (at 2 30))) (Post (Brackets (at 2 31) (FirstItem (One
@@ -114,7 +114,7 @@ two_variables = refl
 
 -- forall t in E { const x = B[t] + B((t)); }
 a_tuple_name : shifts_of
-    (Forall (at 2 1) (OneVariable (name (codes "t") (at 2 8))) (at 2 10) (One (Named (name (codes "E") (at 2 13)))) None (BlockBody
+    (Loop ForallWord (at 2 1) (OneVariable (name (codes "t") (at 2 8))) (at 2 10) (One (Named (name (codes "E") (at 2 13)))) None (BlockBody
     (at 2 15) (Then (Declare (declared None (at 2 17) true (name (codes "x") (at 2 23)) None (Some (initial (at 2 25) (ItemInit (One
     (Chain (Postfixed (Named (name (codes "B") (at 2 27))) (Post (Brackets (at 2 28) (FirstItem (One (Named
     (name (codes "t") (at 2 29)))) NoItems) (at 2 30)) NoPosts)) (Link (at 2 32) Add (Postfixed (Named (name (codes "B") (at 2 34)))
@@ -125,9 +125,9 @@ a_tuple_name = refl
 
 -- forall i in D { for j in D do C[i] += A[j] + A[i-4]; }
 an_inner_loops_variable : shifts_of
-    (Forall (at 2 1) (OneVariable (name (codes "i") (at 2 8))) (at 2 10) (One (Named (name (codes "D") (at 2 13)))) None (BlockBody
-    (at 2 15) (Then (For (at 2 17) (OneVariable (name (codes "j") (at 2 21))) (at 2 23) (One (Named (name (codes "D") (at 2 26))))
-    (WordBody (at 2 28) (Assigned (Element (name (codes "C") (at 2 31)) Square (at 2 32) (FirstExpr (Named
+    (Loop ForallWord (at 2 1) (OneVariable (name (codes "i") (at 2 8))) (at 2 10) (One (Named (name (codes "D") (at 2 13)))) None (BlockBody
+    (at 2 15) (Then (Loop ForWord (at 2 17) (OneVariable (name (codes "j") (at 2 21))) (at 2 23) (One (Named (name (codes "D") (at 2 26))))
+    None (WordBody (at 2 28) (Assigned (Element (name (codes "C") (at 2 31)) Square (at 2 32) (FirstExpr (Named
     (name (codes "i") (at 2 33))) NoExprs) (at 2 34)) (sign (at 2 36) SetAdd (at 2 36)) (One (Chain (Postfixed (Named
     (name (codes "A") (at 2 39))) (Post (Brackets (at 2 40) (FirstItem (One (Named (name (codes "j") (at 2 41)))) NoItems)
     (at 2 42)) NoPosts)) (Link (at 2 44) Add (Postfixed (Named (name (codes "A") (at 2 46))) (Post (Brackets (at 2 47) (FirstItem
@@ -138,7 +138,7 @@ an_inner_loops_variable = refl
 
 -- forall i in D { const x = A[i]; const i = 1; const y = A[i]; }
 a_hidden_variable : shifts_of
-    (Forall (at 2 1) (OneVariable (name (codes "i") (at 2 8))) (at 2 10) (One (Named (name (codes "D") (at 2 13)))) None (BlockBody
+    (Loop ForallWord (at 2 1) (OneVariable (name (codes "i") (at 2 8))) (at 2 10) (One (Named (name (codes "D") (at 2 13)))) None (BlockBody
     (at 2 15) (Then (Declare (declared None (at 2 17) true (name (codes "x") (at 2 23)) None (Some (initial (at 2 25) (ItemInit (One
     (Postfixed (Named (name (codes "A") (at 2 27))) (Post (Brackets (at 2 28) (FirstItem (One (Named (name (codes "i") (at 2 29))))
     NoItems) (at 2 30)) NoPosts))) None))) (at 2 31))) (Then (Declare (declared None (at 2 33) true (name (codes "i") (at 2 39))
@@ -151,7 +151,7 @@ a_hidden_variable = refl
 
 -- forall i in D { if false then C[i] = A[i-1]; }
 a_condition_never_reached : shifts_of
-    (Forall (at 2 1) (OneVariable (name (codes "i") (at 2 8))) (at 2 10) (One (Named (name (codes "D") (at 2 13)))) None (BlockBody
+    (Loop ForallWord (at 2 1) (OneVariable (name (codes "i") (at 2 8))) (at 2 10) (One (Named (name (codes "D") (at 2 13)))) None (BlockBody
     (at 2 15) (Then (If (at 2 17) (TruthWord (at 2 20) false) (WordBody (at 2 26) (Assigned (Element (name (codes "C") (at 2 31))
     Square (at 2 32) (FirstExpr (Named (name (codes "i") (at 2 33))) NoExprs) (at 2 34)) (sign (at 2 36) Set (at 2 36)) (One
     (Postfixed (Named (name (codes "A") (at 2 38))) (Post (Brackets (at 2 39) (FirstItem (One (Chain (Named

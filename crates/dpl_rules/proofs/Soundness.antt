@@ -1,17 +1,16 @@
 -- A sound program's foralls are admitted, and a program is sound exactly where it has no first breach.
 -- The first breach is one of the program's.
-use Rattle.std.proofs.Common.{◌≡◌, ◌↔◌, if◌then◌else◌, List, [], ◌∷◌, ◌++◌, length, Some, None, refl}
-use Rattle.dpl_language.specs.Tree.{StmtTree, Nothing, Declare, Assigned, Call, Write, Block, If, While, For, Forall, Coforall, On, Body, WordBody, BlockBody, Stmts, NoStmts, Then, Else, NoElse, ElseDo, ProgramTree}
+use Rattle.std.proofs.Common.{◌≡◌, ◌↔◌, if◌then◌else◌, List, [], ◌∷◌, ◌++◌, Some, None, refl}
+use Rattle.dpl_language.specs.Tree.{LoopWord, ForWord, ForallWord, CoforallWord, StmtTree, Nothing, Declare, Assigned, Call, Write, Block, If, Headed, Loop, Body, WordBody, BlockBody, Stmts, NoStmts, Then, Else, NoElse, ElseDo, ProgramTree}
 use Rattle.dpl_language.specs.Names.{Text}
 use Rattle.dpl_syntax.specs.declared.refusal.Breach.{Breach}
 use Rattle.dpl_rules.specs.Sights.{Sight, enter, inside}
-use Rattle.dpl_rules.specs.Assignments.{condition_breaches, on_breaches}
-use Rattle.dpl_rules.specs.Loops.{ForWord, ForallWord, CoforallWord, header_breaches, with_breaches, in_loop, behind}
-use Rattle.dpl_rules.specs.Doings.{with_deeds, body_deeds}
-use Rattle.dpl_rules.specs.Bodies.{forall_scope, forall_breaches, task_breaches}
-use Rattle.dpl_rules.specs.Foralls.{ForallIn, foralls, body_foralls, all_foralls, else_foralls}
+use Rattle.dpl_rules.specs.Assignments.{condition_breaches}
+use Rattle.dpl_rules.specs.Loops.{header_breaches, with_breaches, in_loop, behind}
+use Rattle.dpl_rules.specs.Doings.{body_deeds}
+use Rattle.dpl_rules.specs.Foralls.{ForallIn, scope_in, deeds_in, forall_by, foralls, body_foralls, all_foralls, else_foralls}
 use Rattle.dpl_rules.specs.Admitted.{AreAdmitted}
-use Rattle.dpl_rules.specs.Breaches.{in_forall, in_coforall, stmt_breaches, body_breaches, stmts_breaches, else_breaches, top, top_sight, all_declarations, count_breaches, breaches, before, least_from, first_breach}
+use Rattle.dpl_rules.specs.Breaches.{in_turn, turn_breaches, head_breaches, stmt_breaches, body_breaches, stmts_breaches, else_breaches, top, top_sight, all_declarations, count_breaches, breaches, before, least_from, first_breach}
 use Rattle.dpl_rules.specs.Sound.{IsSound}
 use Rattle.dpl_rules.proofs.Admission.{first_empty, second_empty, unbroken_admitted}
 
@@ -19,6 +18,13 @@ use Rattle.dpl_rules.proofs.Admission.{first_empty, second_empty, unbroken_admit
 both_admitted : (fs gs : List ForallIn) → AreAdmitted fs → AreAdmitted gs → AreAdmitted (fs ++ gs)
 both_admitted [] gs p q = q
 both_admitted (f ∷ fs) gs p q = (p.0, both_admitted fs gs p.1 q)
+
+-- a loop that is a forall
+turns_admitted : (word : LoopWord) (f : ForallIn) → turn_breaches f.scopes word f.variables f.intents (body_deeds (in_loop f.scopes word f.variables f.over) f.body) ≡ []
+    → AreAdmitted (forall_by word f)
+turns_admitted ForWord f e = tt
+turns_admitted ForallWord f e = (unbroken_admitted (scope_in f) (deeds_in f) e, tt)
+turns_admitted CoforallWord f e = tt
 
 mutual
   stmt_admitted : (sight : Sight) (t : StmtTree Text) → stmt_breaches sight t ≡ [] → AreAdmitted (foralls sight.scopes t)
@@ -35,30 +41,18 @@ mutual
       both_admitted (body_foralls within.scopes first) (else_foralls within.scopes second)
       (body_admitted within first (second_empty condition (body_breaches within first) (first_empty both (else_breaches within second) e)))
       (else_admitted within second (second_empty both (else_breaches within second) e))
-  stmt_admitted sight (While at c body) e =
+  stmt_admitted sight (Headed word at c body) e =
       let within = inside sight (enter sight.scopes) in
-      body_admitted within body (second_empty (condition_breaches sight c) (body_breaches within body) e)
-  stmt_admitted sight (For at xs word item body) e =
-      let within = inside sight (in_loop sight.scopes ForWord xs item) in
-      body_admitted within body (second_empty (header_breaches sight.scopes ForWord xs item) (body_breaches within body) e)
-  stmt_admitted sight (Forall at xs word item intents body) e =
-      let within = in_forall sight xs item intents in
-      let loop = forall_scope sight.scopes xs intents in
-      let deeds = body_deeds (in_loop sight.scopes ForallWord xs item) body in
-      let header = header_breaches sight.scopes ForallWord xs item ++ with_breaches sight.scopes intents in
-      let turns = header ++ forall_breaches loop deeds in (
-        unbroken_admitted loop deeds (second_empty header (forall_breaches loop deeds) (first_empty turns (body_breaches within body) e)),
-        body_admitted within body (second_empty turns (body_breaches within body) e),
-      )
-  stmt_admitted sight (Coforall at xs word item intents body) e =
-      let within = in_coforall sight xs item in
-      let deeds = with_deeds intents ++ body_deeds (in_loop sight.scopes CoforallWord xs item) body in
-      let header = header_breaches sight.scopes CoforallWord xs item ++ with_breaches sight.scopes intents in
-      let tasks = header ++ task_breaches (length sight.scopes) deeds in
-      body_admitted within body (second_empty tasks (body_breaches within body) e)
-  stmt_admitted sight (On at c body) e =
-      let within = inside sight (enter sight.scopes) in
-      body_admitted within body (second_empty (on_breaches sight c) (body_breaches within body) e)
+      body_admitted within body (second_empty (head_breaches sight word c) (body_breaches within body) e)
+  stmt_admitted sight (Loop word at xs within item intents body) e =
+      let ss = sight.scopes in
+      let f : ForallIn = record { at = at; scopes = ss; variables = xs; over = item; intents = intents; body = body } in
+      let header = header_breaches ss word xs item ++ with_breaches ss intents in
+      let turns = turn_breaches ss word xs intents (body_deeds (in_loop ss word xs item) body) in
+      let others = body_breaches (in_turn sight word xs item intents) body in
+      both_admitted (forall_by word f) (body_foralls (in_loop ss word xs item) body)
+      (turns_admitted word f (second_empty header turns (first_empty (header ++ turns) others e)))
+      (body_admitted (in_turn sight word xs item intents) body (second_empty (header ++ turns) others e))
 
   body_admitted : (sight : Sight) (body : Body Text) → body_breaches sight body ≡ [] → AreAdmitted (body_foralls sight.scopes body)
   body_admitted sight (WordBody at t) e = stmt_admitted sight t e

@@ -2,7 +2,7 @@
 -- One walk carries what is in sight, and asks each statement for the breaches of its rules.
 use Rattle.std.specs.Prelude.{◌≡◌, ◌⊎◌, ℕ, ◌==◌, nat_lt, Bool, true, false, ◌&&◌, ◌||◌, if◌then◌else◌, List, [], ◌∷◌, ◌++◌, drop, length, Option, Some, None}
 use Rattle.dpl_syntax.specs.declared.place.Place.{Place}
-use Rattle.dpl_language.specs.Tree.{VariablesTree, TypeTree, SyncType, DeclareTree, WithTree, ItemTree, StmtTree, Nothing, Declare, Assigned, Call, Write, Block, If, While, For, Forall, Coforall, On, Body, WordBody, BlockBody, Stmts, NoStmts, Then, Else, NoElse, ElseDo, ProgramTree}
+use Rattle.dpl_language.specs.Tree.{ExprTree, VariablesTree, TypeTree, SyncType, DeclareTree, WithTree, ItemTree, HeadWord, WhileWord, OnWord, LoopWord, ForWord, ForallWord, CoforallWord, StmtTree, Nothing, Declare, Assigned, Call, Write, Block, If, Headed, Loop, Body, WordBody, BlockBody, Stmts, NoStmts, Then, Else, NoElse, ElseDo, ProgramTree}
 use Rattle.dpl_language.specs.Names.{Text}
 use Rattle.dpl_language.specs.Declarations.{type_of as written_type}
 use Rattle.dpl_language.specs.Writing.{arguments_of}
@@ -10,20 +10,37 @@ use Rattle.dpl_syntax.specs.declared.refusal.Code.{Code}
 use Rattle.dpl_syntax.specs.declared.refusal.Code.TheVariants.{NotText, BadCharacter, NumberTooLarge, Unexpected, TooDeep, UnknownName, NameTwice, WrongType, ConstantWritten, WrongRank, WrittenElsewhere, ReadElsewhere, OuterChanged, NotInForall, NotInCoforall, CellMisused, TooMany, BadSet}
 use Rattle.dpl_syntax.specs.declared.refusal.Breach.{Breach}
 use Rattle.dpl_rules.specs.Verdicts.{breach}
-use Rattle.dpl_rules.specs.Sights.{Scopes, enter, Sight, inside}
+use Rattle.dpl_rules.specs.Sights.{Scopes, enter, Reducing, Sight, inside}
 use Rattle.dpl_rules.specs.Declarations.{declaration_breaches}
 use Rattle.dpl_rules.specs.Assignments.{assignment_breaches, call_breaches, printed_breaches, condition_breaches, on_breaches}
-use Rattle.dpl_rules.specs.Loops.{ForWord, ForallWord, CoforallWord, header_breaches, with_breaches, in_loop, reducing_in, behind}
+use Rattle.dpl_rules.specs.Loops.{header_breaches, with_breaches, in_loop, reducing_in, behind}
+use Rattle.dpl_rules.specs.Deeds.{Deed}
 use Rattle.dpl_rules.specs.Doings.{with_deeds, body_deeds}
 use Rattle.dpl_rules.specs.Bodies.{forall_scope, forall_breaches, task_breaches, promoted_breaches}
 
--- ---- what a forall's and a coforall's body have in sight
-abbrev pub in_forall : Sight → VariablesTree Text → ItemTree Text → Option (WithTree Text) → Sight
-in_forall sight xs item intents =
-    record sight { scopes = in_loop sight.scopes ForallWord xs item; forall = Some (reducing_in sight.scopes intents) }
+-- ---- what a loop's body has in sight: its variables, a forall's reduce variables, and that it is a task
+abbrev pub reducing_by : Sight → LoopWord → Option (WithTree Text) → Option Reducing
+reducing_by sight ForallWord intents = Some (reducing_in sight.scopes intents)
+reducing_by sight _ intents = sight.forall
 
-abbrev pub in_coforall : Sight → VariablesTree Text → ItemTree Text → Sight
-in_coforall sight xs item = record sight { scopes = in_loop sight.scopes CoforallWord xs item; in_task = true }
+abbrev pub in_task_by : Sight → LoopWord → Bool
+in_task_by sight CoforallWord = true
+in_task_by sight _ = sight.in_task
+
+abbrev pub in_turn : Sight → LoopWord → VariablesTree Text → ItemTree Text → Option (WithTree Text) → Sight
+in_turn sight word xs item intents =
+    record { scopes = in_loop sight.scopes word xs item; forall = reducing_by sight word intents; in_task = in_task_by sight word }
+
+-- ---- what a loop's body does: turns of a forall keep apart, and tasks share cells alone
+abbrev pub turn_breaches : Scopes → LoopWord → VariablesTree Text → Option (WithTree Text) → List Deed → List Breach
+turn_breaches ss ForWord xs intents ds = []
+turn_breaches ss ForallWord xs intents ds = forall_breaches (forall_scope ss xs intents) ds
+turn_breaches ss CoforallWord xs intents ds = task_breaches (length ss) (with_deeds intents ++ ds)
+
+-- ---- a condition, and the locale that a body runs on
+abbrev pub head_breaches : Sight → HeadWord → ExprTree Text → List Breach
+head_breaches sight WhileWord e = condition_breaches sight e
+head_breaches sight OnWord e = on_breaches sight e
 
 -- ---- statements
 abbrev mutual
@@ -38,18 +55,11 @@ abbrev mutual
   stmt_breaches sight (If at e first second) =
       condition_breaches sight e ++ body_breaches (inside sight (enter sight.scopes)) first
       ++ else_breaches (inside sight (enter sight.scopes)) second
-  stmt_breaches sight (While at e body) = condition_breaches sight e ++ body_breaches (inside sight (enter sight.scopes)) body
-  stmt_breaches sight (For at xs word item body) =
-      header_breaches sight.scopes ForWord xs item ++ body_breaches (inside sight (in_loop sight.scopes ForWord xs item)) body
-  stmt_breaches sight (Forall at xs word item intents body) =
-      header_breaches sight.scopes ForallWord xs item ++ with_breaches sight.scopes intents
-      ++ forall_breaches (forall_scope sight.scopes xs intents) (body_deeds (in_loop sight.scopes ForallWord xs item) body)
-      ++ body_breaches (in_forall sight xs item intents) body
-  stmt_breaches sight (Coforall at xs word item intents body) =
-      header_breaches sight.scopes CoforallWord xs item ++ with_breaches sight.scopes intents
-      ++ task_breaches (length sight.scopes) (with_deeds intents ++ body_deeds (in_loop sight.scopes CoforallWord xs item) body)
-      ++ body_breaches (in_coforall sight xs item) body
-  stmt_breaches sight (On at e body) = on_breaches sight e ++ body_breaches (inside sight (enter sight.scopes)) body
+  stmt_breaches sight (Headed word at e body) = head_breaches sight word e ++ body_breaches (inside sight (enter sight.scopes)) body
+  stmt_breaches sight (Loop word at xs within item intents body) =
+      header_breaches sight.scopes word xs item ++ with_breaches sight.scopes intents
+      ++ turn_breaches sight.scopes word xs intents (body_deeds (in_loop sight.scopes word xs item) body)
+      ++ body_breaches (in_turn sight word xs item intents) body
 
   pub body_breaches : Sight → Body Text → List Breach
   body_breaches sight (WordBody at t) = stmt_breaches sight t
@@ -69,11 +79,8 @@ abbrev mutual
   declarations (Declare d) = d ∷ []
   declarations (Block from ts upto) = all_declarations ts
   declarations (If at e first second) = body_declarations first ++ else_declarations second
-  declarations (While at e body) = body_declarations body
-  declarations (For at xs word item body) = body_declarations body
-  declarations (Forall at xs word item intents body) = body_declarations body
-  declarations (Coforall at xs word item intents body) = body_declarations body
-  declarations (On at e body) = body_declarations body
+  declarations (Headed word at e body) = body_declarations body
+  declarations (Loop word at xs within item intents body) = body_declarations body
   declarations _ = []
 
   pub body_declarations : Body Text → List (DeclareTree Text)

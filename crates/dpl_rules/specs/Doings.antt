@@ -3,7 +3,7 @@
 use Rattle.std.specs.Prelude.{Bool, true, false, List, [], ◌∷◌, ◌++◌, Option, Some, None}
 use Rattle.dpl_syntax.specs.declared.place.Place.{Place}
 use Rattle.dpl_language.specs.Tree.{Placed, Assign, Exprs, TypeTree, ScalarType, DomainType, ArrayType, InitTree, ItemInit, CreateInit, InitialTree, DeclareTree, TargetTree, Whole, Element, CallTree, WriteCall, ArgumentTree, TextArgument, ExprArgument, IntentTree, ReduceIntent, RefIntent, WithTree}
-use Rattle.dpl_language.specs.Tree.{StmtTree, Nothing, Declare, Assigned, Call, Write, Block, If, While, For, Forall, Coforall, On, Body, WordBody, BlockBody, Stmts, NoStmts, Then, Else, NoElse, ElseDo}
+use Rattle.dpl_language.specs.Tree.{HeadWord, WhileWord, OnWord, LoopWord, ForWord, ForallWord, CoforallWord, StmtTree, Nothing, Declare, Assigned, Call, Write, Block, If, Headed, Loop, Body, WordBody, BlockBody, Stmts, NoStmts, Then, Else, NoElse, ElseDo}
 use Rattle.dpl_language.specs.Names.{Text}
 use Rattle.dpl_language.specs.Phrases.{parts}
 use Rattle.dpl_language.specs.Declarations.{type_of as written_type}
@@ -13,7 +13,7 @@ use Rattle.dpl_rules.specs.Verdicts.{where_given}
 use Rattle.dpl_rules.specs.Places.{first_of_declaration}
 use Rattle.dpl_rules.specs.Sights.{Declared, Scopes, lookup, type_declared, enter}
 use Rattle.dpl_rules.specs.Expressions.{item_type}
-use Rattle.dpl_rules.specs.Loops.{ForWord, ForallWord, CoforallWord, in_loop, behind}
+use Rattle.dpl_rules.specs.Loops.{in_loop, behind}
 use Rattle.dpl_rules.specs.Deeds.{APrint, AForall, ACoforall, ACellCall, AnOn, ADeclaration, AReduceIntent, Deed, Writes, WritesAt, held, held_if, exprs_index, expr_deeds, item_deeds, items_deeds, exprs_deeds, mapped_deeds}
 
 -- ---- declarations of arrays, domains and cells. A written type says it by itself; where none is written, `dmapped` and
@@ -86,6 +86,16 @@ module _ (scopes : Scopes) where
   arguments_deeds (ExprArgument e ∷ rest) = expr_deeds scopes e ++ arguments_deeds rest
 
 -- ---- statements
+-- a loop that makes turns or tasks, and a body that runs on a locale
+abbrev pub loop_held : LoopWord → Place → List Deed
+loop_held ForWord at = []
+loop_held ForallWord at = held at AForall
+loop_held CoforallWord at = held at ACoforall
+
+abbrev pub head_held : HeadWord → Place → List Deed
+head_held WhileWord at = []
+head_held OnWord at = held at AnOn
+
 abbrev mutual
   pub stmt_deeds : Scopes → StmtTree Text → List Deed
   stmt_deeds ss (Nothing at) = []
@@ -95,13 +105,9 @@ abbrev mutual
   stmt_deeds ss (Write w) = held w.at APrint ++ arguments_deeds ss (arguments_of w.arguments)
   stmt_deeds ss (Block from ts upto) = stmts_deeds (enter ss) ts
   stmt_deeds ss (If at e first second) = expr_deeds ss e ++ body_deeds (enter ss) first ++ else_deeds (enter ss) second
-  stmt_deeds ss (While at e body) = expr_deeds ss e ++ body_deeds (enter ss) body
-  stmt_deeds ss (For at xs word item body) = item_deeds ss item ++ body_deeds (in_loop ss ForWord xs item) body
-  stmt_deeds ss (Forall at xs word item intents body) =
-      held at AForall ++ item_deeds ss item ++ with_deeds intents ++ body_deeds (in_loop ss ForallWord xs item) body
-  stmt_deeds ss (Coforall at xs word item intents body) =
-      held at ACoforall ++ item_deeds ss item ++ with_deeds intents ++ body_deeds (in_loop ss CoforallWord xs item) body
-  stmt_deeds ss (On at e body) = held at AnOn ++ expr_deeds ss e ++ body_deeds (enter ss) body
+  stmt_deeds ss (Headed word at e body) = head_held word at ++ expr_deeds ss e ++ body_deeds (enter ss) body
+  stmt_deeds ss (Loop word at xs within item intents body) =
+      loop_held word at ++ item_deeds ss item ++ with_deeds intents ++ body_deeds (in_loop ss word xs item) body
 
   pub body_deeds : Scopes → Body Text → List Deed
   body_deeds ss (WordBody at t) = stmt_deeds ss t

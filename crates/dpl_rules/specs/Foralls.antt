@@ -2,10 +2,10 @@
 -- What a body holds of foralls stands behind the forall itself.
 use Rattle.std.specs.Prelude.{List, [], ◌∷◌, ◌++◌, Option}
 use Rattle.dpl_syntax.specs.declared.place.Place.{Place}
-use Rattle.dpl_language.specs.Tree.{VariablesTree, ItemTree, WithTree, StmtTree, Nothing, Declare, Assigned, Call, Write, Block, If, While, For, Forall, Coforall, On, Body, WordBody, BlockBody, Stmts, NoStmts, Then, Else, NoElse, ElseDo}
+use Rattle.dpl_language.specs.Tree.{VariablesTree, ItemTree, WithTree, LoopWord, ForallWord, StmtTree, Nothing, Declare, Assigned, Call, Write, Block, If, Headed, Loop, Body, WordBody, BlockBody, Stmts, NoStmts, Then, Else, NoElse, ElseDo}
 use Rattle.dpl_language.specs.Names.{Text}
 use Rattle.dpl_rules.specs.Sights.{Scopes, enter}
-use Rattle.dpl_rules.specs.Loops.{ForWord, ForallWord, CoforallWord, in_loop, behind}
+use Rattle.dpl_rules.specs.Loops.{in_loop, behind}
 use Rattle.dpl_rules.specs.Deeds.{Deed}
 use Rattle.dpl_rules.specs.Doings.{body_deeds}
 use Rattle.dpl_rules.specs.Bodies.{ForallScope, forall_scope}
@@ -26,6 +26,11 @@ scope_in f = forall_scope f.scopes f.variables f.intents
 abbrev pub deeds_in : ForallIn → List Deed
 deeds_in f = body_deeds (in_loop f.scopes ForallWord f.variables f.over) f.body
 
+-- a loop, where it is a forall
+abbrev pub forall_by : LoopWord → ForallIn → List ForallIn
+forall_by ForallWord f = f ∷ []
+forall_by _ f = []
+
 abbrev mutual
   pub foralls : Scopes → StmtTree Text → List ForallIn
   foralls ss (Nothing at) = []
@@ -35,13 +40,10 @@ abbrev mutual
   foralls ss (Write w) = []
   foralls ss (Block from ts upto) = all_foralls (enter ss) ts
   foralls ss (If at e first second) = body_foralls (enter ss) first ++ else_foralls (enter ss) second
-  foralls ss (While at e body) = body_foralls (enter ss) body
-  foralls ss (For at xs word item body) = body_foralls (in_loop ss ForWord xs item) body
-  foralls ss (Forall at xs word item intents body) =
-      record { at = at; scopes = ss; variables = xs; over = item; intents = intents; body = body }
-      ∷ body_foralls (in_loop ss ForallWord xs item) body
-  foralls ss (Coforall at xs word item intents body) = body_foralls (in_loop ss CoforallWord xs item) body
-  foralls ss (On at e body) = body_foralls (enter ss) body
+  foralls ss (Headed word at e body) = body_foralls (enter ss) body
+  foralls ss (Loop word at xs within item intents body) =
+      forall_by word (record { at = at; scopes = ss; variables = xs; over = item; intents = intents; body = body })
+      ++ body_foralls (in_loop ss word xs item) body
 
   pub body_foralls : Scopes → Body Text → List ForallIn
   body_foralls ss (WordBody at t) = foralls ss t

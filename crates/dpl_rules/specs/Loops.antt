@@ -3,7 +3,7 @@
 use Rattle.std.specs.Prelude.{ℕ, ◌==◌, Bool, true, false, not, ◌&&◌, ◌||◌, bytes_eq, if◌then◌else◌, List, [], ◌∷◌, ◌++◌, length, unwrap_or, Option, Some, None}
 use Rattle.dpl_syntax.specs.declared.place.Place.{Place}
 use Rattle.dpl_language.specs.Tree.{Placed, Op, ItemTree, One, RangeItem, VariablesTree, OneVariable, ManyVariables, IntentTree, ReduceIntent, RefIntent, WithTree}
-use Rattle.dpl_language.specs.Tree.{StmtTree, Declare}
+use Rattle.dpl_language.specs.Tree.{LoopWord, ForallWord, CoforallWord, StmtTree, Declare}
 use Rattle.dpl_language.specs.Names.{Text}
 use Rattle.dpl_language.specs.Phrases.{parts, intents_of}
 use Rattle.dpl_rules.specs.Types.{ValueType, Tuple, Locale, an_int, domain_of, is_range, is_domain, is_all_locales, is_cell, has, is_scalar, op_kind}
@@ -15,12 +15,6 @@ use Rattle.dpl_rules.specs.Sights.{LoopVariable, Declared, Scopes, lookup, decla
 use Rattle.dpl_rules.specs.Expressions.{bare_locales, locales_or, none_where, item_type, item_breaches}
 use Rattle.dpl_rules.specs.Declarations.{declared_by}
 use Rattle.dpl_rules.specs.Operators.{rank_or}
-
--- the words of the loops over indices
-pub data LoopWord : Type 0 where
-  ForWord : LoopWord
-  ForallWord : LoopWord
-  CoforallWord : LoopWord
 
 -- a coforall runs over a range or `Locales`, a forall over a range or a domain, a `for` over all three
 abbrev pub over_domains : LoopWord → Bool

@@ -5,7 +5,7 @@ use Rattle.std.specs.Prelude.{All}
 use Rattle.std.proofs.lemmas.List.Elements.{All-head, All-tail, All-weaker}
 use Rattle.dpl_syntax.specs.declared.place.Place.{Place}
 use Rattle.dpl_sets.specs.TextRanges.{TextRange}
-use Rattle.dpl_language.specs.Tree.{Placed, ExprTree, ItemTree, VariablesTree, OneVariable, ManyVariables, StmtTree, Nothing, Declare, Assigned, Call, Write, Block, If, While, For, Forall, Coforall, On, Body, WordBody, BlockBody, Stmts, NoStmts, Then, Else, NoElse, ElseDo}
+use Rattle.dpl_language.specs.Tree.{Placed, ExprTree, ItemTree, VariablesTree, OneVariable, ManyVariables, WhileWord, OnWord, ForWord, ForallWord, CoforallWord, StmtTree, Nothing, Declare, Assigned, Call, Write, Block, If, Headed, Loop, Body, WordBody, BlockBody, Stmts, NoStmts, Then, Else, NoElse, ElseDo}
 use Rattle.dpl_language.specs.Values.{Value, Int, Index, Fault}
 use Rattle.dpl_language.specs.Ranges.{indices_in, size_in, loop_ranges, loop_value}
 use Rattle.dpl_language.specs.Outcome.{Deeds, Outcome, Done, Stop, Waits, Run}
@@ -90,11 +90,11 @@ module _ {N G : Type 0} (scoping : Scoping N G) (Q : G → Place → ItemTree N 
     EachForall (Write w) g = Unit {0}
     EachForall (Block from body upto) g = EachAmong body (scoping.enter g)
     EachForall (If at e first second) g = EachInBody first (scoping.enter g) × EachInElse second g
-    EachForall (While at e body) g = EachInBody body (scoping.enter g)
-    EachForall (For at xs word item body) g = EachInBody body (inside scoping xs g)
-    EachForall (Forall at xs word item intents body) g = Q g at item body × EachInBody body (inside scoping xs (scoping.intend (intents_of intents) g))
-    EachForall (Coforall at xs word item intents body) g = Unit {0}
-    EachForall (On at e body) g = Unit {0}
+    EachForall (Headed WhileWord at e body) g = EachInBody body (scoping.enter g)
+    EachForall (Loop ForWord at xs within item intents body) g = EachInBody body (inside scoping xs g)
+    EachForall (Loop ForallWord at xs within item intents body) g = Q g at item body × EachInBody body (inside scoping xs (scoping.intend (intents_of intents) g))
+    EachForall (Loop CoforallWord at xs within item intents body) g = Unit {0}
+    EachForall (Headed OnWord at e body) g = Unit {0}
 
     pub EachInBody : Body N → G → Type 0
     EachInBody (WordBody at t) g = EachForall t g
@@ -191,17 +191,17 @@ module _ {M N G S1 S2 : Type 0} (limits : Limits) (name : N → M) (scoping : Sc
     stmt-entered (If at e a b) g f q s1 s2 done r =
         with-entered IsMet (holds limits first (renamed_expr name e) s1) (holds limits second e s2) _ _ s1 s2 done (holds-same e g s1 s2 r f.0)
         (λ c told. if-entered IsMet c (R g) _ _ _ _ (inside-entered g _ _ (body-entered a (scoping.enter g) f.1 q.0)) (else-entered b g f.2 q.1) s1 s2 done r)
-    stmt-entered (While at e body) g f q s1 s2 done r =
+    stmt-entered (Headed WhileWord at e body) g f q s1 s2 done r =
         repeated-entered IsMet limits.budget (R g) _ _ _ _ _ _ (λ s1 s2 r. holds-same e g s1 s2 r f.0) (inner-alike body g f.1)
         (inside-entered g _ _ (body-entered body (scoping.enter g) f.1 q)) s1 s2 done r
-    stmt-entered (For at xs word item body) g f q s1 s2 done r =
+    stmt-entered (Loop ForWord at xs within item intents body) g f q s1 s2 done r =
         with-entered IsMet (item_of limits first (renamed_item name item) None s1) (item_of limits second item None s2) _ _ s1 s2 done
         (item_of-renamed limits name scoping first second R sim item None g s1 s2 r f.0)
         (λ v e. let ts = indices_in (loop_ranges limits.locales v) in
         let held = turns-held limits name scoping first second R sim xs item v g s1 s2 r f.1 e in
-        within-entered IsMet limits (loop_ranges limits.locales v) (R g) _ _ _ _ (turns-alike xs v g body f.2 f.3 ts held)
-        (turns-entered xs v g body f.2 f.3 ts held (body-entered body (inside scoping xs g) f.3 q)) s1 s2 done r)
-    stmt-entered (Forall at xs word item intents body) g f q s1 s2 done r =
+        within-entered IsMet limits (loop_ranges limits.locales v) (R g) _ _ _ _ (turns-alike xs v g body f.3 f.4 ts held)
+        (turns-entered xs v g body f.3 f.4 ts held (body-entered body (inside scoping xs g) f.4 q)) s1 s2 done r)
+    stmt-entered (Loop ForallWord at xs within item intents body) g f q s1 s2 done r =
         with-entered IsMet (item_of limits first (renamed_item name item) None s1) (item_of limits second item None s2) _ _ s1 s2 done
         (item_of-renamed limits name scoping first second R sim item None g s1 s2 r f.0)
         (λ v e.
@@ -225,8 +225,8 @@ module _ {M N G S1 S2 : Type 0} (limits : Limits) (name : N → M) (scoping : Sc
               (subst (λ noted. Pairwise IsMet (entered_within limits rs turns1 inner1 (first.intend (renamed_intents name is) s1) (first.note at rs s1 done)) (entered_within limits rs turns2 inner2 (second.intend is s2) noted))
               (sim.notes at rs done g s1 s2 r) more),
         ))
-    stmt-entered (Coforall at xs word item intents body) g f q s1 s2 done r = tt
-    stmt-entered (On at e body) g f q s1 s2 done r = tt
+    stmt-entered (Loop CoforallWord at xs within item intents body) g f q s1 s2 done r = tt
+    stmt-entered (Headed OnWord at e body) g f q s1 s2 done r = tt
 
     body-entered : (b : Body N) (g : G) → fits_body scoping b g → EachInBody scoping Q b g → Alike g (entered_body limits first (renamed_body name b)) (entered_body limits second b)
     body-entered (WordBody at t) g f q s1 s2 done r = stmt-entered t g f q s1 s2 done r

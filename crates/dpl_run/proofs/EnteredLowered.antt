@@ -5,7 +5,7 @@ use Rattle.std.specs.Prelude.{All, option_map}
 use Rattle.std.proofs.lemmas.List.{append-nil}
 use mathlib.Core.Path.{fun_ext}
 use Rattle.dpl_sets.specs.TextRanges.{TextRange}
-use Rattle.dpl_language.specs.Tree.{Placed, ExprTree, ItemTree, One, VariablesTree, OneVariable, ManyVariables, StmtTree, Nothing, Declare, Assigned, Call, Write, Block, If, While, For, Forall, Coforall, On, Body, WordBody, BlockBody, Stmts, NoStmts, Then, Else, NoElse, ElseDo}
+use Rattle.dpl_language.specs.Tree.{Placed, ExprTree, ItemTree, One, VariablesTree, OneVariable, ManyVariables, WhileWord, OnWord, ForWord, ForallWord, CoforallWord, StmtTree, Nothing, Declare, Assigned, Call, Write, Block, If, Headed, Loop, Body, WordBody, BlockBody, Stmts, NoStmts, Then, Else, NoElse, ElseDo}
 use Rattle.dpl_language.specs.Values.{Value, Int, Index}
 use Rattle.dpl_language.specs.Ranges.{indices_in, loop_ranges}
 use Rattle.dpl_language.specs.Outcome.{Deeds, Outcome, Done, Stop, Waits, Run, then_do}
@@ -150,16 +150,16 @@ module _ {M N S : Type 0} (limits : Limits) (name : N → M) (env : Environment 
         with-entered IsLowered (holds limits by_names e s) (holds limits env (lowered_expr known Once (renamed_expr name e)) u) _ _ s u done
         (holds-same e s ∙ ap (holds limits env (lowered_expr known Once (renamed_expr name e))) r)
         (λ c told. if-entered IsLowered c Same _ _ _ _ (inside-same _ _ (body-lowered a)) (else-lowered b) s u done r)
-    stmt-lowered (While at e body) s u done r =
+    stmt-lowered (Headed WhileWord at e body) s u done r =
         repeated-entered IsLowered limits.budget Same _ _ (scoped by_names (exec_body limits by_names body)) (scoped env (exec_body limits env (lowered_body known (renamed_body name body)))) _ _
         (λ s u r. holds-same e s ∙ ap (holds limits env (lowered_expr known Once (renamed_expr name e))) r)
         (run-same _ _ (λ s done. ap (λ run. scoped env run s done) (fun_ext (λ s. fun_ext (λ done. body-same body s done)))))
         (inside-same _ _ (body-lowered body)) s u done r
-    stmt-lowered (For at xs word item body) s u done r =
+    stmt-lowered (Loop ForWord at xs within item intents body) s u done r =
         with-entered IsLowered (item_of limits by_names item None s) (item_of limits env (lowered_item known Once (renamed_item name item)) None u) _ _ s u done
         (item-same item s ∙ ap (item_of limits env (lowered_item known Once (renamed_item name item)) None) r)
         (λ v told. within-same xs v body (loop_ranges limits.locales v) (body-lowered body) s u done r)
-    stmt-lowered (Forall at xs word item intents body) s u done r =
+    stmt-lowered (Loop ForallWord at xs within item intents body) s u done r =
         with-entered IsLowered (item_of limits by_names item None s) (item_of limits env (lowered_item known Once (renamed_item name item)) None u) _ _ s u done
         (item-same item s ∙ ap (item_of limits env (lowered_item known Once (renamed_item name item)) None) r)
         (λ v told.
@@ -173,8 +173,8 @@ module _ {M N S : Type 0} (limits : Limits) (name : N → M) (env : Environment 
               (ap (λ u. env.note at rs u done) r)
               (named-same xs v body rs (body-lowered body) (env.intend js s) (env.intend ks u) (env.note at rs s done) (ap (λ is. env.intend is s) same ∙ ap (env.intend ks) r)),
         ))
-    stmt-lowered (Coforall at xs word item intents body) s u done r = tt
-    stmt-lowered (On at e body) s u done r = tt
+    stmt-lowered (Loop CoforallWord at xs within item intents body) s u done r = tt
+    stmt-lowered (Headed OnWord at e body) s u done r = tt
 
     body-lowered : (b : Body N) → Enters (entered_body limits by_names b) (entered_body limits env (lowered_body known (renamed_body name b)))
     body-lowered (WordBody at t) s u done r =

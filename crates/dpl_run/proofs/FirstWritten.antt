@@ -9,7 +9,7 @@ use Rattle.dpl_syntax.specs.declared.place.Place.{Place}
 use Rattle.dpl_syntax.specs.declared.refusal.Breach.{Breach}
 use Rattle.dpl_syntax.specs.declared.refusal.Code.TheVariants.{WrongType, WrittenElsewhere}
 use Rattle.dpl_language.specs.Tree.{Placed, Kind, IntKind, BoolKind, Assign, TypeTree, ScalarType, SyncType, DomainType, ArrayType, InitTree, ItemInit, CreateInit, InitialTree, DeclareTree, Exprs, VariablesTree, OneVariable, ManyVariables, ItemTree, WithTree, Whole, Element}
-use Rattle.dpl_language.specs.Tree.{StmtTree, Nothing, Declare, Assigned, Call, Write, Block, If, While, For, Forall, Coforall, On, Body, WordBody, BlockBody, Stmts, NoStmts, Then, Else, NoElse, ElseDo}
+use Rattle.dpl_language.specs.Tree.{WhileWord, OnWord, LoopWord, ForWord, ForallWord, CoforallWord, StmtTree, Nothing, Declare, Assigned, Call, Write, Block, If, Headed, Loop, Body, WordBody, BlockBody, Stmts, NoStmts, Then, Else, NoElse, ElseDo}
 use Rattle.dpl_language.specs.Names.{Text}
 use Rattle.dpl_language.specs.Phrases.{parts}
 use Rattle.dpl_language.specs.Declarations.{type_of as written_type}
@@ -23,16 +23,16 @@ use Rattle.dpl_rules.specs.Expressions.{side_part, side_breaches}
 use Rattle.dpl_rules.specs.Maps.{mapped_breaches}
 use Rattle.dpl_rules.specs.Declarations.{type_rank, is_kept, is_untyped, unless_refused, init_part, untyped_breaches, written_breaches, type_given, config_breaches, declaration_breaches, declared_by}
 use Rattle.dpl_rules.specs.Assignments.{assignment_breaches, condition_breaches}
-use Rattle.dpl_rules.specs.Loops.{LoopWord, ForWord, ForallWord, turn_rank, one_type, variable_type, typed_variable, runs_over, over_type, variables_of, add_variables, header_breaches, with_breaches, in_loop, behind}
+use Rattle.dpl_rules.specs.Loops.{turn_rank, one_type, variable_type, typed_variable, runs_over, over_type, variables_of, add_variables, header_breaches, with_breaches, in_loop, behind}
 use Rattle.dpl_rules.specs.Deeds.{Deed, Holds, ADeclaration, held_if, expr_deeds, item_deeds, exprs_deeds, each}
 use Rattle.dpl_rules.specs.Doings.{is_apart_init, is_apart, type_deeds, initial_deeds, declaration_deeds, written, element_written, with_deeds, stmt_deeds, body_deeds, stmts_deeds, else_deeds}
 use Rattle.dpl_rules.specs.Bodies.{ForallScope, forall_scope, is_outer_array, written_arrays, deed_breaches, forall_breaches, promoted_breaches}
-use Rattle.dpl_rules.specs.Breaches.{top, top_sight, in_forall, stmt_breaches, body_breaches, stmts_breaches, else_breaches}
+use Rattle.dpl_rules.specs.Breaches.{top, top_sight, in_turn, head_breaches, stmt_breaches, body_breaches, stmts_breaches, else_breaches}
 use Rattle.dpl_rules.specs.Foralls.{ForallIn, scope_in, deeds_in, foralls, body_foralls, all_foralls, else_foralls}
 use Rattle.dpl_rules.proofs.Admission.{first_empty, second_empty}
 use Rattle.dpl_standing.specs.Written.{first_written, first_in_body, first_among, first_in_else}
 use Rattle.dpl_standing.proofs.FirstWritten.{body-renamed, body-lowered, body-told}
-use Rattle.dpl_standing.proofs.Reading.{first_name, first-both, behind-reads, both-read, ReadsAlone, expr-reads, item-reads, exprs-read, declaration-reads, call-reads}
+use Rattle.dpl_standing.proofs.Reading.{first_name, first-both, behind-reads, both-read, ReadsAlone, with-reads, expr-reads, item-reads, exprs-read, declaration-reads, call-reads}
 use Rattle.dpl_nodes.specs.Spots.{IsNear}
 use Rattle.dpl_lowered.specs.Known.{Known}
 use Rattle.dpl_lowered.specs.LoweredStatements.{lowered_body}
@@ -285,24 +285,26 @@ module _ (f : Turning) where
         (turn_body-first first inner (enter-stands (Some f) ss stands) within s.2 c.1 (second_empty test one (first_empty (test ++ one) other h))
         (second-done (Some f) tested first_deeds (first-done (Some f) (tested ++ first_deeds) second_deeds m))))
         (turn_else-first second ss stands within s.3 c.2 (second_empty (test ++ one) other h) (second-done (Some f) (tested ++ first_deeds) second_deeds m))
-    turn-first (While at e body) ss stands within s c h m =
+    turn-first (Headed WhileWord at e body) ss stands within s c h m =
         let inner = enter ss in
         let tested = expr_deeds ss e in
         behind-first tested (body_deeds inner body) (first_in_body itself body) (expr-reads loop_of ss e)
         (turn_body-first body inner (enter-stands (Some f) ss stands) within s.2 c.1
         (second_empty (condition_breaches (sight_by (Some f) ss) e) (body_breaches (sight_by (Some f) inner) body) h)
         (second-done (Some f) tested (body_deeds inner body) m))
-    turn-first (For at xs word item body) ss stands within s c h m =
+    turn-first (Headed OnWord at e body) ss stands within s c h m = absurd c.2
+    turn-first (Loop ForWord at xs in_word item intents body) ss stands within s c h m =
         let inner = in_loop ss ForWord xs item in
         let head = header_breaches ss ForWord xs item in
+        let intended = with_breaches ss intents in
         let others = body_breaches (sight_by (Some f) inner) body in
-        let read = item_deeds ss item in
-        behind-first read (body_deeds inner body) (first_in_body itself body) (item-reads loop_of ss item)
-        (turn_body-first body inner (loop-stands IsNear ss (Some f) ForWord xs item stands s.3 c.0 (first_empty head others h)) (within-loop depth_of ForWord xs item ss within)
-        s.4 c.1 (second_empty head others h) (second-done (Some f) read (body_deeds inner body) m))
-    turn-first (Forall at xs word item intents body) ss stands within s c h m = absurd (forall-refuted f at (item_deeds ss item ++ with_deeds intents ++ body_deeds (in_loop ss ForallWord xs item) body) m)
-    turn-first (Coforall at xs word item intents body) ss stands within s c h m = absurd c
-    turn-first (On at e body) ss stands within s c h m = absurd c
+        let headed = first_empty head intended (first_empty (head ++ intended) [] (first_empty (head ++ intended ++ []) others h)) in
+        let read = item_deeds ss item ++ with_deeds intents in
+        behind-first read (body_deeds inner body) (first_in_body itself body) (both-read loop_of (item_deeds ss item) (with_deeds intents) (item-reads loop_of ss item) (with-reads loop_of intents))
+        (turn_body-first body inner (loop-stands IsNear ss (Some f) ForWord xs item stands s.3 c.0 headed) (within-loop depth_of ForWord xs item ss within)
+        s.5 c.1 (second_empty (head ++ intended ++ []) others h) (second-done (Some f) read (body_deeds inner body) m))
+    turn-first (Loop ForallWord at xs in_word item intents body) ss stands within s c h m = absurd (forall-refuted f at (item_deeds ss item ++ with_deeds intents ++ body_deeds (in_loop ss ForallWord xs item) body) m)
+    turn-first (Loop CoforallWord at xs in_word item intents body) ss stands within s c h m = absurd c.2
 
     turn_body-first : (t : Body Text) (ss : Scopes) → Stands (Some f) ss → AreWithin depth_of ss → BodySpelt IsNear ⊥ t → UntaskedBody t → body_breaches (sight_by (Some f) ss) t ≡ []
         → MayDoIn (Some f) (body_deeds ss t) → first_deed (body_deeds ss t) ≡ first_in_body itself t
@@ -330,7 +332,7 @@ module _ (f : Turning) where
 
 -- ---- a forall outside of others
 pub forall-first : (ss : Scopes) → Stands None ss → AreWithin (length ss) ss → (at : Place) (xs : VariablesTree Text) (word : Place) (item : ItemTree Text) (intents : Option (WithTree Text)) (body : Body Text)
-    → StmtSpelt IsNear ⊥ (Forall at xs word item intents body) → UntaskedStmt (Forall at xs word item intents body) → stmt_breaches (sight_by None ss) (Forall at xs word item intents body) ≡ []
+    → StmtSpelt IsNear ⊥ (Loop ForallWord at xs word item intents body) → UntaskedStmt (Loop ForallWord at xs word item intents body) → stmt_breaches (sight_by None ss) (Loop ForallWord at xs word item intents body) ≡ []
     → IsFirst (record { at = at; scopes = ss; variables = xs; over = item; intents = intents; body = body })
 forall-first ss stands within at xs word item intents body s c h =
     let inner = in_loop ss ForallWord xs item in
@@ -339,7 +341,7 @@ forall-first ss stands within at xs word item intents body s c h =
     let head = header_breaches ss ForallWord xs item in
     let intended = with_breaches ss intents in
     let told = forall_breaches loop ds in
-    let others = body_breaches (in_forall (sight_by None ss) xs item intents) body in
+    let others = body_breaches (in_turn (sight_by None ss) ForallWord xs item intents) body in
     let front = first_empty (head ++ intended ++ told) others h in
     let heads = first_empty (head ++ intended) told front in
     let none = second_empty head intended heads in
@@ -373,14 +375,14 @@ module _ (f : Turning) where
         none-both (body_foralls (enter ss) first) (else_foralls (enter ss) second)
         (turn_body-none first (enter ss) (second-done (Some f) tested one (first-done (Some f) (tested ++ one) other m)))
         (turn_else-none second (enter ss) (second-done (Some f) (tested ++ one) other m))
-    turn-none (While at e body) ss m = turn_body-none body (enter ss) (second-done (Some f) (expr_deeds ss e) (body_deeds (enter ss) body) m)
-    turn-none (For at xs word item body) ss m =
+    turn-none (Headed WhileWord at e body) ss m = turn_body-none body (enter ss) (second-done (Some f) (expr_deeds ss e) (body_deeds (enter ss) body) m)
+    turn-none (Loop ForWord at xs within item intents body) ss m =
         let inner = in_loop ss ForWord xs item in
-        turn_body-none body inner (second-done (Some f) (item_deeds ss item) (body_deeds inner body) m)
-    turn-none (Forall at xs word item intents body) ss m =
+        turn_body-none body inner (second-done (Some f) (item_deeds ss item ++ with_deeds intents) (body_deeds inner body) m)
+    turn-none (Loop ForallWord at xs within item intents body) ss m =
         absurd (forall-refuted f at (item_deeds ss item ++ with_deeds intents ++ body_deeds (in_loop ss ForallWord xs item) body) m)
-    turn-none (Coforall at xs word item intents body) ss m = absurd cc
-    turn-none (On at e body) ss m = absurd cc
+    turn-none (Loop CoforallWord at xs within item intents body) ss m = absurd cc
+    turn-none (Headed OnWord at e body) ss m = absurd cc
 
     turn_body-none : (t : Body Text) (ss : Scopes) → MayDoIn (Some f) (body_deeds ss t) → body_foralls ss t ≡ []
     turn_body-none (WordBody at t) ss m = turn-none t ss m
@@ -423,7 +425,7 @@ within-after ss _ within = within
 abbrev pub IsLaw : (ForallIn → Type 0) → Type 0
 IsLaw P =
     (ss : Scopes) → Stands None ss → AreWithin (length ss) ss → (at : Place) (xs : VariablesTree Text) (word : Place) (item : ItemTree Text) (intents : Option (WithTree Text)) (body : Body Text)
-    → StmtSpelt IsNear ⊥ (Forall at xs word item intents body) → UntaskedStmt (Forall at xs word item intents body) → stmt_breaches (sight_by None ss) (Forall at xs word item intents body) ≡ []
+    → StmtSpelt IsNear ⊥ (Loop ForallWord at xs word item intents body) → UntaskedStmt (Loop ForallWord at xs word item intents body) → stmt_breaches (sight_by None ss) (Loop ForallWord at xs word item intents body) ≡ []
     → P (record { at = at; scopes = ss; variables = xs; over = item; intents = intents; body = body })
 
 module _ (P : ForallIn → Type 0) (law : IsLaw P) where
@@ -443,28 +445,29 @@ module _ (P : ForallIn → Type 0) (law : IsLaw P) where
         all-both P (body_foralls inner first) (else_foralls inner second)
         (body-laws first inner (enter-stands None ss stands) (within-enter ss within) s.2 c.1 (second_empty test one (first_empty (test ++ one) other h)))
         (else-laws second inner (enter-stands None ss stands) (within-enter ss within) s.3 c.2 (second_empty (test ++ one) other h))
-    laws (While at e body) ss stands within s c h =
+    laws (Headed word at e body) ss stands within s c h =
         body-laws body (enter ss) (enter-stands None ss stands) (within-enter ss within) s.2 c.1
-        (second_empty (condition_breaches (sight_by None ss) e) (body_breaches (sight_by None (enter ss)) body) h)
-    laws (For at xs word item body) ss stands within s c h =
+        (second_empty (head_breaches (sight_by None ss) word e) (body_breaches (sight_by None (enter ss)) body) h)
+    laws (Loop ForWord at xs in_word item intents body) ss stands within s c h =
         let inner = in_loop ss ForWord xs item in
         let head = header_breaches ss ForWord xs item in
+        let intended = with_breaches ss intents in
         let others = body_breaches (sight_by None inner) body in
-        body-laws body inner (loop-stands IsNear ss None ForWord xs item stands s.3 c.0 (first_empty head others h)) (within-inner ss ForWord xs item within) s.4 c.1 (second_empty head others h)
-    laws (Forall at xs word item intents body) ss stands within s c h =
+        let headed = first_empty head intended (first_empty (head ++ intended) [] (first_empty (head ++ intended ++ []) others h)) in
+        body-laws body inner (loop-stands IsNear ss None ForWord xs item stands s.3 c.0 headed) (within-inner ss ForWord xs item within) s.5 c.1 (second_empty (head ++ intended ++ []) others h)
+    laws (Loop ForallWord at xs in_word item intents body) ss stands within s c h =
         let inner = in_loop ss ForallWord xs item in
         let ds = body_deeds inner body in
         let loop = forall_scope ss xs intents in
         let heads = header_breaches ss ForallWord xs item ++ with_breaches ss intents in
         let told = forall_breaches loop ds in
-        let others = body_breaches (in_forall (sight_by None ss) xs item intents) body in
+        let others = body_breaches (in_turn (sight_by None ss) ForallWord xs item intents) body in
         let may = second_empty heads told (first_empty (heads ++ told) others h) in
         let f : Turning = record { outer = ss; variables = xs; intents = intents; written = written_arrays loop ds } in (
-          law ss stands within at xs word item intents body s c h,
+          law ss stands within at xs in_word item intents body s c h,
           subst (AllByRecursion P) (sym (turn_body-none f body inner may)) tt,
         )
-    laws (Coforall at xs word item intents body) ss stands within s c h = absurd c
-    laws (On at e body) ss stands within s c h = absurd c
+    laws (Loop CoforallWord at xs in_word item intents body) ss stands within s c h = absurd c.2
 
     body-laws : (t : Body Text) (ss : Scopes) → Stands None ss → AreWithin (length ss) ss → BodySpelt IsNear ⊥ t → UntaskedBody t → body_breaches (sight_by None ss) t ≡ [] → AllByRecursion P (body_foralls ss t)
     body-laws (WordBody at t) ss stands within s c h = laws t ss stands within s.1 c h

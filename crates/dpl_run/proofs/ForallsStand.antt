@@ -4,7 +4,7 @@ use Rattle.std.specs.Prelude.{bytes_eq, if◌then◌else◌, option_map}
 use Rattle.std.specs.Option.{option_or}
 use Rattle.std.proofs.lemmas.Option.{same_Some}
 use Rattle.dpl_syntax.specs.declared.place.Place.{Place}
-use Rattle.dpl_language.specs.Tree.{Placed, AfterComma, ItemTree, VariablesTree, OneVariable, ManyVariables, StmtTree, Nothing, Declare, Assigned, Call, Write, Block, If, While, For, Forall, Coforall, On, Body, WordBody, BlockBody, Stmts, NoStmts, Then, Else, NoElse, ElseDo}
+use Rattle.dpl_language.specs.Tree.{Placed, AfterComma, ItemTree, VariablesTree, OneVariable, ManyVariables, WhileWord, OnWord, LoopWord, ForWord, ForallWord, CoforallWord, StmtTree, Nothing, Declare, Assigned, Call, Write, Block, If, Headed, Loop, Body, WordBody, BlockBody, Stmts, NoStmts, Then, Else, NoElse, ElseDo}
 use Rattle.dpl_language.specs.Names.{Text}
 use Rattle.dpl_language.specs.Phrases.{intents_of}
 use Rattle.dpl_language.specs.Declarations.{type_of}
@@ -13,7 +13,7 @@ use Rattle.dpl_agreement.specs.Scopes.{Form, PlainForm, form_by, add_each, add_v
 use Rattle.dpl_rules.specs.Types.{ValueType}
 use Rattle.dpl_rules.specs.Sights.{Declared, Scopes, find, lookup, type_declared, enter, add}
 use Rattle.dpl_rules.specs.Declarations.{declared_by}
-use Rattle.dpl_rules.specs.Loops.{LoopWord, ForWord, ForallWord, add_variables, variables_of, in_loop, behind}
+use Rattle.dpl_rules.specs.Loops.{add_variables, variables_of, in_loop, behind}
 use Rattle.dpl_rules.specs.Foralls.{ForallIn, foralls, body_foralls, all_foralls, else_foralls}
 use Rattle.dpl_scopes.specs.Slots.{next_slot_in, slot_in}
 use Rattle.dpl_scopes.proofs.Slots.{slot_in-add}
@@ -135,9 +135,9 @@ module _ (start : Start) (fs : List ForallIn) where
       body-stands first (enter ss) ((resolving start).enter g) seen (λ f a. among f (among-left f (body_foralls (enter ss) first) (else_foralls (enter ss) second) a)),
       else-stands second ss g seen (λ f a. among f (among-right f (body_foralls (enter ss) first) (else_foralls (enter ss) second) a)),
     )
-    stmt-stands (While at e body) ss g seen among = body-stands body (enter ss) ((resolving start).enter g) seen among
-    stmt-stands (For at xs word item body) ss g seen among = body-stands body (in_loop ss ForWord xs item) _ (seen-loop start ForWord xs item ss g seen) among
-    stmt-stands (Forall at xs word item intents body) ss g seen among = (
+    stmt-stands (Headed WhileWord at e body) ss g seen among = body-stands body (enter ss) ((resolving start).enter g) seen among
+    stmt-stands (Loop ForWord at xs within item intents body) ss g seen among = body-stands body (in_loop ss ForWord xs item) _ (seen-loop start ForWord xs item ss g seen) among
+    stmt-stands (Loop ForallWord at xs within item intents body) ss g seen among = (
       record {
         forall = record { at = at; scopes = ss; variables = xs; over = item; intents = intents; body = body };
         among = among _ (inl refl);
@@ -149,8 +149,8 @@ module _ (start : Start) (fs : List ForallIn) where
       body-stands body (in_loop ss ForallWord xs item) _
           (seen-loop start ForallWord xs item ss ((resolving start).intend (intents_of (option_map (renamed_with (bound_in ss)) intents)) g) seen) (λ f a. among f (inr a)),
     )
-    stmt-stands (Coforall at xs word item intents body) ss g seen among = tt
-    stmt-stands (On at e body) ss g seen among = tt
+    stmt-stands (Loop CoforallWord at xs within item intents body) ss g seen among = tt
+    stmt-stands (Headed OnWord at e body) ss g seen among = tt
 
     body-stands : (b : Body Text) (ss : Scopes) (g : Seen) → IsSeenAs ss g → ((f : ForallIn) → IsAmong f (body_foralls ss b) → IsAmong f fs) → EachInBody (resolving start) (StandsAs fs) (bound_body ss b) g
     body-stands (WordBody at t) ss g seen among = stmt-stands t ss g seen among

@@ -5,7 +5,7 @@ use Rattle.std.specs.Prelude.{option_map}
 use mathlib.Core.Path.{fun_ext}
 use Rattle.dpl_syntax.specs.declared.place.Place.{Place}
 use Rattle.dpl_history.specs.declared.history.Event.{Event}
-use Rattle.dpl_language.specs.Tree.{Placed, ExprTree, ArrayTypeTree, TypeTree, ScalarType, SyncType, DomainType, ArrayType, InitTree, ItemInit, CreateInit, TypedTree, InitialTree, DeclareTree, StmtTree, Nothing, Declare, Assigned, Call, Write, Block, If, While, For, Forall, Coforall, On, Body, WordBody, BlockBody, Stmts, NoStmts, Then, Else, NoElse, ElseDo, ProgramTree}
+use Rattle.dpl_language.specs.Tree.{Placed, ExprTree, ArrayTypeTree, TypeTree, ScalarType, SyncType, DomainType, ArrayType, InitTree, ItemInit, CreateInit, TypedTree, InitialTree, DeclareTree, WhileWord, OnWord, ForWord, ForallWord, CoforallWord, StmtTree, Nothing, Declare, Assigned, Call, Write, Block, If, Headed, Loop, Body, WordBody, BlockBody, Stmts, NoStmts, Then, Else, NoElse, ElseDo, ProgramTree}
 use Rattle.dpl_language.specs.Values.{Value, Int, Truth, Range, Domain, Array, Cell, Locale, AllLocales, Tuple, number, ranges_in, fault, PastLimit, ArrayTooLarge}
 use Rattle.dpl_language.specs.Distributions.{Root}
 use Rattle.dpl_language.specs.Ranges.{indices_in, size_in, loop_ranges, too_large}
@@ -138,22 +138,22 @@ module _ (limits : Limits) (deal other : Text → Root → State → State) (kee
     exec-alike (If at e a b) s u done r =
         with_value-alike Alike _ _ _ _ s u done (holds-alike e s u r)
         (λ c. choose-alike c Alike Alike _ _ _ _ (scoped-alike limits deal other _ _ (exec_body-alike a)) (exec_else-alike b) s u done r)
-    exec-alike (While at e body) s u done r =
+    exec-alike (Headed WhileWord at e body) s u done r =
         repeated-alike limits.budget at Alike _ _ _ _ (holds-alike e) (scoped-alike limits deal other _ _ (exec_body-alike body)) s u done r
-    exec-alike (For at xs word item body) s u done r =
+    exec-alike (Loop ForWord at xs within item intents body) s u done r =
         with_value-alike Alike _ _ _ _ s u done (item-alike limits deal other item None s u r)
         (λ v. turns-alike limits deal other at (loop_ranges limits.locales v) _ _ (turn_of-alike limits deal other xs v _ _ (exec_body-alike body)) s u done r)
-    exec-alike (Forall at xs word item intents body) s u done r =
+    exec-alike (Loop ForallWord at xs within item intents body) s u done r =
         with_value-alike Alike _ _ _ _ s u done (item-alike limits deal other item None s u r)
         (λ v. then_do-alike Alike Alike _ _ _ _
         (turns-alike limits deal other at (loop_ranges limits.locales v) _ _ (named_turn-alike Alike _ _ (turn_of-alike limits deal other xs v _ _ (exec_body-alike body)))
         (by_name.intend (intents_of intents) s) (by_name.intend (intents_of intents) u) done (ap (λ s. bare (by_name.intend (intents_of intents) s)) r))
         (λ v w done q. (by_name.intend [] w, ap (λ s. bare (by_name.intend [] s)) q, refl)))
-    exec-alike (Coforall at xs word item intents body) s u done r =
+    exec-alike (Loop CoforallWord at xs within item intents body) s u done r =
         with_value-alike Alike _ _ _ _ s u done (item-alike limits deal other item None s u r)
         (λ v. unless-alike (nat_lt task_limit (size_in (loop_ranges limits.locales v))) (fault PastLimit at) Alike Alike _ _
         (tasks_of-alike limits deal other (first_name xs) _ _ (turn_of-alike limits deal other xs v _ _ (exec_body-alike body)) (indices_in (loop_ranges limits.locales v))) s u done r)
-    exec-alike (On at e body) s u done r =
+    exec-alike (Headed OnWord at e body) s u done r =
         with_value-alike Alike _ _ _ _ s u done (value-alike limits deal other e None s u r)
         (λ v. then_do-alike Alike Alike _ _ _ _
         (scoped-alike limits deal other _ _ (exec_body-alike body) (by_name.move (number v) s) (by_name.move (number v) u) done (ap (λ s. bare (by_name.move (number v) s)) r))

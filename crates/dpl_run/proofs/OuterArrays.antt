@@ -4,17 +4,17 @@ use Rattle.std.proofs.Common.{◌≡◌, ℕ, true, [], length, Option, Some, No
 use Rattle.std.specs.Prelude.{option_map, ◌++◌}
 use Rattle.std.specs.Option.{option_or}
 use Rattle.std.proofs.lemmas.Option.{none-some, same_Some}
-use Rattle.dpl_language.specs.Tree.{Kind, Whole, Element, StmtTree, Nothing, Declare, Assigned, Call, Write, Block, If, While, For, Forall, Coforall, On, Body, WordBody, BlockBody, Stmts, NoStmts, Then, Else, NoElse, ElseDo}
+use Rattle.dpl_language.specs.Tree.{Kind, Whole, Element, ForWord, ForallWord, CoforallWord, StmtTree, Nothing, Declare, Assigned, Call, Write, Block, If, Headed, Loop, Body, WordBody, BlockBody, Stmts, NoStmts, Then, Else, NoElse, ElseDo}
 use Rattle.dpl_language.specs.Names.{Text}
 use Rattle.dpl_spelling.specs.Spelt.{StmtSpelt, BodySpelt, StmtsSpelt, ElseSpelt}
 use Rattle.dpl_agreement.specs.Untasked.{UntaskedStmt, UntaskedBody, UntaskedStmts, UntaskedElse}
 use Rattle.dpl_rules.specs.Sights.{Declared, Scopes, lookup, type_declared, enter}
 use Rattle.dpl_rules.specs.Assignments.{assignment_breaches, condition_breaches}
-use Rattle.dpl_rules.specs.Loops.{ForWord, ForallWord, header_breaches, with_breaches, in_loop, behind}
+use Rattle.dpl_rules.specs.Loops.{header_breaches, with_breaches, in_loop, behind}
 use Rattle.dpl_rules.specs.Deeds.{expr_deeds, item_deeds}
-use Rattle.dpl_rules.specs.Doings.{with_deeds, stmt_deeds, body_deeds, stmts_deeds, else_deeds}
+use Rattle.dpl_rules.specs.Doings.{with_deeds, head_held, stmt_deeds, body_deeds, stmts_deeds, else_deeds}
 use Rattle.dpl_rules.specs.Bodies.{forall_scope, written_arrays, forall_breaches, promoted_breaches}
-use Rattle.dpl_rules.specs.Breaches.{in_forall, stmt_breaches, body_breaches, stmts_breaches, else_breaches}
+use Rattle.dpl_rules.specs.Breaches.{in_turn, head_breaches, stmt_breaches, body_breaches, stmts_breaches, else_breaches}
 use Rattle.dpl_rules.specs.Foralls.{ForallIn}
 use Rattle.dpl_rules.proofs.Admission.{first_empty, second_empty}
 use Rattle.dpl_standing.specs.Written.{first_written, first_in_body, first_among, first_in_else}
@@ -49,11 +49,8 @@ mutual
   stmt-text (If at e first second) ss =
       either-text (first_in_body bound_itself (bound_body (enter ss) first)) (first_in_else bound_itself (bound_else ss second)) (first_in_body itself first) (first_in_else itself second)
       (body-text first (enter ss)) (else-text second ss)
-  stmt-text (While at e body) ss = body-text body (enter ss)
-  stmt-text (For at xs word item body) ss = body-text body (in_loop ss ForWord xs item)
-  stmt-text (Forall at xs word item intents body) ss = body-text body (in_loop ss ForallWord xs item)
-  stmt-text (Coforall at xs word item intents body) ss = body-text body _
-  stmt-text (On at e body) ss = body-text body (enter ss)
+  stmt-text (Headed word at e body) ss = body-text body (enter ss)
+  stmt-text (Loop word at xs within item intents body) ss = body-text body (in_loop ss word xs item)
 
   pub body-text : (b : Body Text) (ss : Scopes) → option_map text_of (first_in_body bound_itself (bound_body ss b)) ≡ first_in_body itself b
   body-text (WordBody at t) ss = stmt-text t ss
@@ -131,21 +128,22 @@ module _ (f : Turning) where
         (turn_body-outer first inner (enter-stands (Some f) ss stands) within s.2 c.1 (second_empty test one (first_empty (test ++ one) other h))
         (second-done (Some f) tested first_deeds (first-done (Some f) (tested ++ first_deeds) second_deeds m)))
         (turn_else-outer second ss stands within s.3 c.2 (second_empty (test ++ one) other h) (second-done (Some f) (tested ++ first_deeds) second_deeds m))
-    turn-outer (While at e body) ss stands within s c h m =
+    turn-outer (Headed word at e body) ss stands within s c h m =
         let inner = enter ss in
         turn_body-outer body inner (enter-stands (Some f) ss stands) within s.2 c.1
-        (second_empty (condition_breaches (sight_by (Some f) ss) e) (body_breaches (sight_by (Some f) inner) body) h)
-        (second-done (Some f) (expr_deeds ss e) (body_deeds inner body) m)
-    turn-outer (For at xs word item body) ss stands within s c h m =
+        (second_empty (head_breaches (sight_by (Some f) ss) word e) (body_breaches (sight_by (Some f) inner) body) h)
+        (second-done (Some f) (head_held word at ++ expr_deeds ss e) (body_deeds inner body) m)
+    turn-outer (Loop ForWord at xs in_word item intents body) ss stands within s c h m =
         let inner = in_loop ss ForWord xs item in
         let head = header_breaches ss ForWord xs item in
+        let intended = with_breaches ss intents in
         let others = body_breaches (sight_by (Some f) inner) body in
-        turn_body-outer body inner (loop-stands IsNear ss (Some f) ForWord xs item stands s.3 c.0 (first_empty head others h)) (within-loop (length f.outer) ForWord xs item ss within)
-        s.4 c.1 (second_empty head others h) (second-done (Some f) (item_deeds ss item) (body_deeds inner body) m)
-    turn-outer (Forall at xs word item intents body) ss stands within s c h m =
+        let headed = first_empty head intended (first_empty (head ++ intended) [] (first_empty (head ++ intended ++ []) others h)) in
+        turn_body-outer body inner (loop-stands IsNear ss (Some f) ForWord xs item stands s.3 c.0 headed) (within-loop (length f.outer) ForWord xs item ss within)
+        s.5 c.1 (second_empty (head ++ intended ++ []) others h) (second-done (Some f) (item_deeds ss item ++ with_deeds intents) (body_deeds inner body) m)
+    turn-outer (Loop ForallWord at xs in_word item intents body) ss stands within s c h m =
         absurd (forall-refuted f at (item_deeds ss item ++ with_deeds intents ++ body_deeds (in_loop ss ForallWord xs item) body) m)
-    turn-outer (Coforall at xs word item intents body) ss stands within s c h m = absurd c
-    turn-outer (On at e body) ss stands within s c h m = absurd c
+    turn-outer (Loop CoforallWord at xs in_word item intents body) ss stands within s c h m = absurd c.2
 
     turn_body-outer : (t : Body Text) (ss : Scopes) → Stands (Some f) ss → AreWithin (length f.outer) ss → BodySpelt IsNear ⊥ t → UntaskedBody t → body_breaches (sight_by (Some f) ss) t ≡ []
         → MayDoIn (Some f) (body_deeds ss t) → AreOuter f.outer (first_in_body bound_itself (bound_body ss t))
@@ -184,7 +182,7 @@ forall-outer ss stands within at xs word item intents body s c h =
     let head = header_breaches ss ForallWord xs item in
     let intended = with_breaches ss intents in
     let told = forall_breaches loop ds in
-    let others = body_breaches (in_forall (sight_by None ss) xs item intents) body in
+    let others = body_breaches (in_turn (sight_by None ss) ForallWord xs item intents) body in
     let front = first_empty (head ++ intended ++ told) others h in
     let heads = first_empty (head ++ intended) told front in
     let f : Turning = record { outer = ss; variables = xs; intents = intents; written = written_arrays loop ds } in

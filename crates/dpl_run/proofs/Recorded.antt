@@ -5,7 +5,7 @@ use Rattle.std.proofs.lemmas.List.{append-nil, append_assoc}
 use Rattle.dpl_syntax.specs.declared.place.Place.{Place}
 use Rattle.dpl_history.specs.declared.history.Event.{Event}
 use Rattle.dpl_sets.specs.TextRanges.{TextRange}
-use Rattle.dpl_language.specs.Tree.{Op, ItemTree, ProgramTree, VariablesTree, StmtTree, Nothing, Declare, Assigned, Call, Write, Block, If, While, For, Forall, Coforall, On, Body, WordBody, BlockBody, Stmts, NoStmts, Then, Else, NoElse, ElseDo}
+use Rattle.dpl_language.specs.Tree.{Op, ItemTree, ProgramTree, VariablesTree, WhileWord, OnWord, ForWord, ForallWord, CoforallWord, StmtTree, Nothing, Declare, Assigned, Call, Write, Block, If, Headed, Loop, Body, WordBody, BlockBody, Stmts, NoStmts, Then, Else, NoElse, ElseDo}
 use Rattle.dpl_language.specs.Values.{Value, Index, Fault, fault, Budget}
 use Rattle.dpl_language.specs.Ranges.{indices_in, size_in, loop_ranges}
 use Rattle.dpl_language.specs.Outcome.{LoopRun, Deeds, no_deeds, with_loop, Outcome, Done, Stop, Waits, Run, with_value, then_do, choose, unless, in_order, repeated, naming}
@@ -189,16 +189,16 @@ module _ {N S : Type 0} (limits : Limits) (env : Environment N S) (loop : Place 
     stmt-recorded (If at e first second) u s done loops =
         with_value-recorded noted (holds limits silent e s) _ _ _
         (λ t. choose-recorded noted t _ _ _ _ _ _ (inside-recorded first (body-recorded first u.1)) (else-recorded second u.2)) s done loops
-    stmt-recorded (While at e body) u s done loops =
+    stmt-recorded (Headed WhileWord at e body) u s done loops =
         repeated-recorded noted limits.budget at (holds limits silent e) _ _ _ (inside-recorded body (body-recorded body u.1)) s done loops
-    stmt-recorded (For at xs word item body) u s done loops =
+    stmt-recorded (Loop ForWord at xs within item intents body) u s done loops =
         with_value-recorded noted (item_of limits silent item None s) _ _ _
         (λ v. for-recorded xs v body at (loop_ranges limits.locales v) (body-recorded body u.1)) s done loops
-    stmt-recorded (Forall at xs word item intents body) u s done loops =
+    stmt-recorded (Loop ForallWord at xs within item intents body) u s done loops =
         with_value-recorded noted (item_of limits silent item None s) _ _ _
         (λ v. forall-recorded xs v body at (loop_ranges limits.locales v) item (intents_of intents) (body-recorded body u.1)) s done loops
-    stmt-recorded (Coforall at xs word item intents body) u s done loops = absurd u
-    stmt-recorded (On at e body) u s done loops = absurd u
+    stmt-recorded (Loop CoforallWord at xs within item intents body) u s done loops = absurd u.2
+    stmt-recorded (Headed OnWord at e body) u s done loops = absurd u.2
 
     body-recorded : (b : Body N) → UntaskedBody b → IsRecordedBody b
     body-recorded (WordBody at t) u s done loops = stmt-recorded t u s done loops

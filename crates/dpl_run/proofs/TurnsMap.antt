@@ -14,7 +14,7 @@ use Rattle.dpl_layout.specs.declared.maps.Maps.{Maps}
 use Rattle.dpl_layout.specs.declared.maps.Maps.TheVariants as roots
 use Rattle.dpl_layout.specs.declared.named.Named.TheVariants.{Whole}
 use Rattle.dpl_layout.specs.RootMaps.{chosen_map}
-use Rattle.dpl_language.specs.Tree.{ItemTree, Body, Stmts}
+use Rattle.dpl_language.specs.Tree.{ItemTree, Body, Stmts, ForallWord}
 use Rattle.dpl_language.specs.Distributions.{no_root}
 use Rattle.dpl_language.specs.Environment.{Limits}
 use Rattle.dpl_language.specs.Outcome.{no_deeds}
@@ -35,7 +35,7 @@ use Rattle.dpl_frame.specs.Roots.{map_of_root}
 use Rattle.dpl_frame.specs.Frames.{Framed}
 use Rattle.dpl_rules.specs.Types.{Origin}
 use Rattle.dpl_rules.specs.Sights.{Scopes}
-use Rattle.dpl_rules.specs.Loops.{ForallWord, in_loop}
+use Rattle.dpl_rules.specs.Loops.{in_loop}
 use Rattle.dpl_rules.specs.Bodies.{written_arrays}
 use Rattle.dpl_rules.specs.Breaches.{top, top_sight, stmts_breaches}
 use Rattle.dpl_rules.specs.Foralls.{ForallIn, scope_in, deeds_in, all_foralls}

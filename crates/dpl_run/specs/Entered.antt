@@ -4,7 +4,7 @@
 use Rattle.std.specs.Prelude.{ℕ, zero, suc, nat_lt, Bool, true, false, None, Result, Ok, Err, List, [], ◌∷◌, ◌++◌}
 use Rattle.dpl_syntax.specs.declared.place.Place.{Place}
 use Rattle.dpl_sets.specs.TextRanges.{TextRange}
-use Rattle.dpl_language.specs.Tree.{ItemTree, VariablesTree, StmtTree, Nothing, Declare, Assigned, Call, Write, Block, If, While, For, Forall, Coforall, On, Body, WordBody, BlockBody, Stmts, NoStmts, Then, Else, NoElse, ElseDo}
+use Rattle.dpl_language.specs.Tree.{ItemTree, VariablesTree, WhileWord, OnWord, ForWord, ForallWord, CoforallWord, StmtTree, Nothing, Declare, Assigned, Call, Write, Block, If, Headed, Loop, Body, WordBody, BlockBody, Stmts, NoStmts, Then, Else, NoElse, ElseDo}
 use Rattle.dpl_language.specs.Values.{Value, Index, Fault}
 use Rattle.dpl_language.specs.Ranges.{indices_in, size_in, loop_ranges}
 use Rattle.dpl_language.specs.Outcome.{Deeds, Outcome, Done, Stop, Waits, Run}
@@ -83,19 +83,19 @@ module _ {N S : Type 0} (limits : Limits) (env : Environment N S) where
     entered (Block from body upto) s done = entered_inside (entered_all body) s done
     entered (If at e first second) s done =
         entered_with (holds limits env e s) (λ b. entered_if b (entered_inside (entered_body first)) (entered_else second)) s done
-    entered (While at e body) s done =
+    entered (Headed WhileWord at e body) s done =
         entered_repeated limits.budget (holds limits env e) (scoped env (exec_body limits env body)) (entered_inside (entered_body body)) s done
-    entered (For at xs word item body) s done =
+    entered (Loop ForWord at xs within item intents body) s done =
         entered_with (item_of limits env item None s)
         (λ v. entered_within limits (loop_ranges limits.locales v) (turn_of env xs v (exec_body limits env body)) (entered_turn xs v (entered_body body)))
         s done
-    entered (Forall at xs word item intents body) s done =
+    entered (Loop ForallWord at xs within item intents body) s done =
         entered_with (item_of limits env item None s)
         (λ v s done. record { at = at; over = item; body = body; ranges = loop_ranges limits.locales v; state = s }
         ∷ entered_within limits (loop_ranges limits.locales v) (named_turn (turn_of env xs v (exec_body limits env body))) (entered_turn xs v (entered_body body))
         (env.intend (intents_of intents) s) (env.note at (loop_ranges limits.locales v) s done)) s done
-    entered (Coforall at xs word item intents body) s done = []
-    entered (On at e body) s done = []
+    entered (Loop CoforallWord at xs within item intents body) s done = []
+    entered (Headed OnWord at e body) s done = []
 
     pub entered_body : Body N → Entering N S
     entered_body (WordBody at t) s done = entered t s done

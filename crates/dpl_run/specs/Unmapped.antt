@@ -3,7 +3,7 @@
 use Rattle.std.specs.Prelude.{◌≡◌, ℕ, Option, Some, None, List, [], option_map}
 use Rattle.dpl_syntax.specs.declared.place.Place.{Place}
 use Rattle.dpl_history.specs.declared.history.Event.{Event}
-use Rattle.dpl_language.specs.Tree.{DomainLiteral, One, TypeTree, DomainType, ArrayType, InitTree, ItemInit, CreateInit, TypedTree, InitialTree, DeclareTree, StmtTree, Declare, Block, If, While, For, Forall, Coforall, On, Body, WordBody, BlockBody, Stmts, NoStmts, Then, Else, NoElse, ElseDo, ProgramTree}
+use Rattle.dpl_language.specs.Tree.{DomainLiteral, One, TypeTree, DomainType, ArrayType, InitTree, ItemInit, CreateInit, TypedTree, InitialTree, DeclareTree, StmtTree, Declare, Block, If, Headed, Loop, Body, WordBody, BlockBody, Stmts, NoStmts, Then, Else, NoElse, ElseDo, ProgramTree}
 use Rattle.dpl_language.specs.Values.{Value}
 use Rattle.dpl_language.specs.Outcome.{no_deeds, Outcome, Done, Stop, Waits}
 use Rattle.dpl_language.specs.Environment.{Environment, Limits}
@@ -53,11 +53,8 @@ module _ {N : Type 0} where
     unmapped_stmt (Declare d) = Declare (unmapped_declare d)
     unmapped_stmt (Block from body upto) = Block from (unmapped_stmts body) upto
     unmapped_stmt (If at e first second) = If at e (unmapped_body first) (unmapped_else second)
-    unmapped_stmt (While at e body) = While at e (unmapped_body body)
-    unmapped_stmt (For at xs word item body) = For at xs word item (unmapped_body body)
-    unmapped_stmt (Forall at xs word item intents body) = Forall at xs word item intents (unmapped_body body)
-    unmapped_stmt (Coforall at xs word item intents body) = Coforall at xs word item intents (unmapped_body body)
-    unmapped_stmt (On at e body) = On at e (unmapped_body body)
+    unmapped_stmt (Headed word at e body) = Headed word at e (unmapped_body body)
+    unmapped_stmt (Loop word at xs within item intents body) = Loop word at xs within item intents (unmapped_body body)
     unmapped_stmt t = t
 
     pub unmapped_body : Body N → Body N

@@ -3,7 +3,7 @@
 use Rattle.std.proofs.Common.{◌≡◌, true, List, [], ◌∷◌, ◌++◌, Option, Some, None, refl, sym, ap, ◌∙◌, append_assoc}
 use Rattle.dpl_syntax.specs.declared.place.Place.{Place}
 use Rattle.dpl_syntax.specs.declared.refusal.Breach.{Breach}
-use Rattle.dpl_language.specs.Tree.{Op, ItemTree, VariablesTree, WithTree, StmtTree, Declare}
+use Rattle.dpl_language.specs.Tree.{Op, ItemTree, VariablesTree, WithTree, LoopWord, StmtTree, Declare}
 use Rattle.dpl_language.specs.Names.{Text}
 use Rattle.dpl_language.specs.Phrases.{intents_of}
 use Rattle.dpl_agreement.specs.Renamed.{renamed_intents}
@@ -13,7 +13,7 @@ use Rattle.dpl_rules.specs.Types.{Origin}
 use Rattle.dpl_rules.specs.Sights.{Scopes, Reducing, Sight, lookup, enter}
 use Rattle.dpl_rules.specs.Assignments.{may_reduce_in}
 use Rattle.dpl_rules.specs.Declarations.{declared_by}
-use Rattle.dpl_rules.specs.Loops.{LoopWord, header_breaches, with_breaches, reducing_in, in_loop, behind}
+use Rattle.dpl_rules.specs.Loops.{header_breaches, with_breaches, reducing_in, in_loop, behind}
 use Rattle.dpl_rules.specs.Deeds.{AForall, Deed, Holds, each}
 use Rattle.dpl_rules.specs.Bodies.{forall_scope, deed_breaches}
 use Rattle.dpl_rules.specs.Breaches.{stmt_breaches}

@@ -2,13 +2,13 @@
 -- over domains and have one or as many as the rank.
 use Rattle.std.proofs.Common.{◌≡◌, ◌≢◌, Bool, true, List, [], ◌∷◌, ◌++◌, map, length, Some, refl, ap, ◌∙◌, subst}
 use Rattle.std.specs.Prelude.{◌==◌}
-use Rattle.dpl_language.specs.Tree.{Placed, AfterComma, ItemTree, VariablesTree, OneVariable, ManyVariables}
+use Rattle.dpl_language.specs.Tree.{Placed, AfterComma, ItemTree, VariablesTree, OneVariable, ManyVariables, LoopWord}
 use Rattle.dpl_language.specs.Names.{Text}
 use Rattle.dpl_spelling.specs.Spelt.{ItemSpelt}
 use Rattle.dpl_agreement.specs.Untasked.{UntaskedItem}
 use Rattle.dpl_rules.specs.Types.{ValueType, Range}
 use Rattle.dpl_rules.specs.Sights.{Scopes, enter}
-use Rattle.dpl_rules.specs.Loops.{LoopWord, fits_variables, header_of, over_type, over_breaches, header_breaches, each_once, variables_of}
+use Rattle.dpl_rules.specs.Loops.{fits_variables, header_of, over_type, over_breaches, header_breaches, each_once, variables_of}
 use Rattle.dpl_rules.proofs.Admission.{first_empty, second_empty}
 use Rattle.dpl_memory.specs.Memory.{VariableKind}
 use Rattle.dpl_typed.specs.Leaves.{value_kind, kind_by}

@@ -3,7 +3,7 @@
 use Rattle.std.proofs.Common.{◌≡◌, inl, inr, ℕ, true, List, [], ◌∷◌, Option, Some, None, is_some, refl, sym, ap, ◌∙◌, subst}
 use Rattle.std.proofs.lemmas.Option.{none-some}
 use Rattle.dpl_language.specs.Tree.{Op, Assign, Set, SetAdd, SetSubtract, SetMultiply, SetDivide, SetRemainder, SetReduce, Kind, IntKind, BoolKind, ExprTree, ItemTree, VariablesTree, TypeTree, ScalarType, SyncType, DomainType, ArrayType, MappedTree, InitTree, ItemInit, CreateInit, InitialTree, DeclareTree}
-use Rattle.dpl_language.specs.Tree.{ArgumentTree, TextArgument, ExprArgument, Whole, Element, StmtTree, Nothing, Declare, Assigned, Call, Write, Block, If, While, For, Forall, Coforall, On, Body, WordBody, BlockBody, Stmts, NoStmts, Then, Else, NoElse, ElseDo}
+use Rattle.dpl_language.specs.Tree.{ArgumentTree, TextArgument, ExprArgument, Whole, Element, WhileWord, OnWord, ForWord, ForallWord, CoforallWord, StmtTree, Nothing, Declare, Assigned, Call, Write, Block, If, Headed, Loop, Body, WordBody, BlockBody, Stmts, NoStmts, Then, Else, NoElse, ElseDo}
 use Rattle.dpl_language.specs.Names.{Text}
 use Rattle.dpl_language.specs.Phrases.{intents_of}
 use Rattle.dpl_language.specs.Writing.{arguments_of}
@@ -14,7 +14,7 @@ use Rattle.dpl_agreement.specs.Scopes.{init_map, initial_map}
 use Rattle.dpl_agreement.specs.Renamed.{renamed_intents}
 use Rattle.dpl_rules.specs.Types.{ValueType, Scalar, has, is_any_scalar}
 use Rattle.dpl_rules.specs.Sights.{Scopes, lookup, type_declared, enter}
-use Rattle.dpl_rules.specs.Loops.{ForWord, ForallWord, in_loop, behind}
+use Rattle.dpl_rules.specs.Loops.{in_loop, behind}
 use Rattle.dpl_scopes.specs.Slots.{slot_in}
 use Rattle.dpl_scopes.proofs.Slots.{slot_in-lookup}
 use Rattle.dpl_memory.specs.Memory.{VariableKind, DomainKind, TupleKind, ArrayKind}
@@ -152,19 +152,19 @@ mutual
     body-plain first (enter ss) is (tt, open-known ss h) r.1 w.0,
     else-plain second ss is h r.2 w.1,
   )
-  stmt-plain (While at e body) ss is h r w = (r.2, expr-plain ss e _ (open-known ss h) r.0, body-plain body (enter ss) is (tt, open-known ss h) r.1 w)
-  stmt-plain (For at xs word item body) ss is h r w = (
+  stmt-plain (Headed WhileWord at e body) ss is h r w = (r.2, expr-plain ss e _ (open-known ss h) r.0, body-plain body (enter ss) is (tt, open-known ss h) r.1 w)
+  stmt-plain (Headed OnWord at e body) ss is h r w = absurd r.3
+  stmt-plain (Loop ForWord at xs within item intents body) ss is h r w = (
     r.2,
     head-plain ss xs item (open-known ss h) r.0 w.0,
     body-plain body (in_loop ss ForWord xs item) is (loop-open no_start ss h ForWord (inl refl) xs item r.0 is) r.1 w.1,
   )
-  stmt-plain (Forall at xs word item intents body) ss is h r w = (
-    r.4,
-    head-plain ss xs item (open-known ss h) r.1 w.0,
-    body-plain body (in_loop ss ForallWord xs item) (renamed_intents (bound_in ss) (intents_of intents)) (loop-open no_start ss h ForallWord (inr refl) xs item r.1 is) r.3 w.1,
+  stmt-plain (Loop ForallWord at xs within item intents body) ss is h r w = (
+    r.2,
+    head-plain ss xs item (open-known ss h) r.0 w.0,
+    body-plain body (in_loop ss ForallWord xs item) (renamed_intents (bound_in ss) (intents_of intents)) (loop-open no_start ss h ForallWord (inr refl) xs item r.0 is) r.1 w.1,
   )
-  stmt-plain (Coforall at xs word item intents body) ss is h r w = absurd r
-  stmt-plain (On at e body) ss is h r w = absurd r
+  stmt-plain (Loop CoforallWord at xs within item intents body) ss is h r w = absurd r.3
 
   body-plain : (b : Body Text) (ss : Scopes) (is : List (Bound × Op)) → AreOpen ss → IsRunnableBody ss is b → IsWrittenBody b → IsPlainBody ss b
   body-plain (WordBody at t) ss is h r w = stmt-plain t ss is h r w
@@ -180,18 +180,8 @@ mutual
 
 -- ---- THE TOP LEVEL
 top-plain : (t : StmtTree Text) (ss : Scopes) → AreOpen ss → IsRunnableTop ss t → IsWrittenTop t → IsPlainStmt ss t
-top-plain (Nothing at) ss h r w = tt
 top-plain (Declare d) ss h r w = declare-plain ss d h r
-top-plain (Assigned target sign item semicolon) ss h r w = stmt-plain (Assigned target sign item semicolon) ss [] h r tt
-top-plain (Call x dot call semicolon) ss h r w = absurd r
-top-plain (Write wr) ss h r w = stmt-plain (Write wr) ss [] h r tt
-top-plain (Block from ts upto) ss h r w = stmt-plain (Block from ts upto) ss [] h r w
-top-plain (If at e first second) ss h r w = stmt-plain (If at e first second) ss [] h r w
-top-plain (While at e body) ss h r w = stmt-plain (While at e body) ss [] h r w
-top-plain (For at xs word item body) ss h r w = stmt-plain (For at xs word item body) ss [] h r w
-top-plain (Forall at xs word item intents body) ss h r w = stmt-plain (Forall at xs word item intents body) ss [] h r w
-top-plain (Coforall at xs word item intents body) ss h r w = absurd r
-top-plain (On at e body) ss h r w = absurd r
+top-plain t ss h r w = stmt-plain t ss [] h r w
 
 pub tops-plain : (ts : Stmts Text) (ss : Scopes) → AreOpen ss → AreRunnableTops ss ts → AreWrittenTops ts → ArePlainStmts ss ts
 tops-plain NoStmts ss h r w = tt

@@ -7,14 +7,14 @@ use Rattle.std.proofs.lemmas.Option.{none-some}
 use Rattle.std.proofs.lemmas.Slice.Eq.{bytes_eq-Decides}
 use Rattle.dpl_syntax.specs.declared.place.Place.{Place}
 use Rattle.dpl_syntax.specs.declared.refusal.Code.TheVariants.{NameTwice, ConstantWritten, CellMisused}
-use Rattle.dpl_language.specs.Tree.{Placed, Kind, IntKind, BoolKind, Op, Sum, Product, AllOf, AnyOf, BitAnd, BitOr, BitXor, Least, Greatest, ItemTree, IntentTree, ReduceIntent, RefIntent, WithTree, VariablesTree}
+use Rattle.dpl_language.specs.Tree.{Placed, Kind, IntKind, BoolKind, Op, Sum, Product, AllOf, AnyOf, BitAnd, BitOr, BitXor, Least, Greatest, ItemTree, IntentTree, ReduceIntent, RefIntent, WithTree, VariablesTree, LoopWord}
 use Rattle.dpl_language.specs.Names.{Text, paired}
 use Rattle.dpl_language.specs.Phrases.{parts, reduce_intents, intents_of}
 use Rattle.dpl_agreement.specs.Renamed.{renamed_intents}
 use Rattle.dpl_rules.specs.Types.{ValueType, Scalar, is_cell, has, is_scalar, op_kind}
 use Rattle.dpl_rules.specs.Verdicts.{breach, owed, owed_type}
 use Rattle.dpl_rules.specs.Sights.{LoopVariable, Declared, Scope, Scopes, lookup, type_declared, origin_in, is_constant, is_outside, reduces, enter, find, add}
-use Rattle.dpl_rules.specs.Loops.{is_among, reduce_intent, ref_intent, intent_breaches, with_breaches, add_variables, variables_of, reducing_in, LoopWord, typed_variable, over_type, in_loop}
+use Rattle.dpl_rules.specs.Loops.{is_among, reduce_intent, ref_intent, intent_breaches, with_breaches, add_variables, variables_of, reducing_in, typed_variable, over_type, in_loop}
 use Rattle.dpl_rules.specs.Assignments.{may_reduce_in}
 use Rattle.dpl_rules.proofs.Admission.{first_empty, second_empty}
 use Rattle.dpl_sound.proofs.Given.{some-same, both_so}

@@ -2,7 +2,7 @@
 -- many slots as it needs, where the command line gives what it owes the names at the end. So all that is in sight there is known.
 use Rattle.std.proofs.Common.{◌≡◌, ◌⊎◌, inl, inr, ℕ, ◌+◌, ◌<◌, ◌≤◌, List, [], Option, Some, None, refl, sym, ap, ◌∙◌, subst, arith}
 use Rattle.std.specs.Prelude.{option_map}
-use Rattle.dpl_language.specs.Tree.{Op, ItemTree, VariablesTree, Whole, Element, StmtTree, Nothing, Declare, Assigned, Call, Write, Block, If, While, For, Forall, Coforall, On, Body, WordBody, BlockBody, Stmts, NoStmts, Then, Else, NoElse, ElseDo, ProgramTree}
+use Rattle.dpl_language.specs.Tree.{Op, ItemTree, VariablesTree, Whole, Element, WhileWord, OnWord, LoopWord, ForWord, ForallWord, CoforallWord, StmtTree, Nothing, Declare, Assigned, Call, Write, Block, If, Headed, Loop, Body, WordBody, BlockBody, Stmts, NoStmts, Then, Else, NoElse, ElseDo, ProgramTree}
 use Rattle.dpl_language.specs.Names.{Text}
 use Rattle.dpl_language.specs.Phrases.{intents_of}
 use Rattle.dpl_language.specs.Writing.{arguments_of}
@@ -12,7 +12,7 @@ use Rattle.dpl_agreement.proofs.RenamedParts.{arguments_of-renamed, intents_of-r
 use Rattle.dpl_rules.specs.Types.{ValueType}
 use Rattle.dpl_rules.specs.Sights.{Scopes, enter}
 use Rattle.dpl_rules.specs.Declarations.{declared_by}
-use Rattle.dpl_rules.specs.Loops.{LoopWord, ForWord, ForallWord, CoforallWord, variables_of, add_variables, in_loop, behind}
+use Rattle.dpl_rules.specs.Loops.{variables_of, add_variables, in_loop, behind}
 use Rattle.dpl_rules.specs.Breaches.{top}
 use Rattle.dpl_rules.specs.Sound.{behind_all}
 use Rattle.dpl_scopes.specs.Slots.{next_slot_in}
@@ -44,20 +44,11 @@ mutual
       let one = body-grows first (enter ss) n in
       let other = else-grows second ss (slots_body (enter ss) first n) in
       omega (arith, one, other)
-  stmt-grows (While at e body) ss n = body-grows body (enter ss) n
-  stmt-grows (For at xs word item body) ss n =
-      let one = each-grows (loop_type ss ForWord xs item) (variables_of xs) (enter ss) n in
-      let other = body-grows body (in_loop ss ForWord xs item) (slots_turn ss ForWord xs item n) in
+  stmt-grows (Headed word at e body) ss n = body-grows body (enter ss) n
+  stmt-grows (Loop word at xs within item intents body) ss n =
+      let one = each-grows (loop_type ss word xs item) (variables_of xs) (enter ss) n in
+      let other = body-grows body (in_loop ss word xs item) (slots_turn ss word xs item n) in
       omega (arith, one, other)
-  stmt-grows (Forall at xs word item intents body) ss n =
-      let one = each-grows (loop_type ss ForallWord xs item) (variables_of xs) (enter ss) n in
-      let other = body-grows body (in_loop ss ForallWord xs item) (slots_turn ss ForallWord xs item n) in
-      omega (arith, one, other)
-  stmt-grows (Coforall at xs word item intents body) ss n =
-      let one = each-grows (loop_type ss CoforallWord xs item) (variables_of xs) (enter ss) n in
-      let other = body-grows body (in_loop ss CoforallWord xs item) (slots_turn ss CoforallWord xs item n) in
-      omega (arith, one, other)
-  stmt-grows (On at e body) ss n = body-grows body (enter ss) n
 
   body-grows : (b : Body Text) (ss : Scopes) (n : ℕ) → n ≤ slots_body ss b n
   body-grows (WordBody at t) ss n = stmt-grows t ss n
@@ -162,30 +153,31 @@ module _ (start : Start) where
           body-fits first (enter ss) is n (tt, open-known ss h) r.1 (omega (arith, more, le)),
           else-fits second ss is (slots_body (enter ss) first n) h r.2 le,
         )
-    stmt-fits (While at e body) ss is n h r le = (expr-fits start ss (open-known ss h) is e r.0.found, body-fits body (enter ss) is n (tt, open-known ss h) r.1 le)
-    stmt-fits (For at xs word item body) ss is n h r le =
+    stmt-fits (Headed WhileWord at e body) ss is n h r le = (expr-fits start ss (open-known ss h) is e r.0.found, body-fits body (enter ss) is n (tt, open-known ss h) r.1 le, tt)
+    stmt-fits (Headed OnWord at e body) ss is n h r le = absurd r.3
+    stmt-fits (Loop ForWord at xs within item intents body) ss is n h r le =
         let more = body-grows body (in_loop ss ForWord xs item) (slots_turn ss ForWord xs item n) in (
           head-fits start ss h ForWord (inl refl) xs item r.0 is,
           head-suits start ss h ForWord (inl refl) xs item r.0 is,
+          tt,
           turns-fit start ss h ForWord (inl refl) xs item r.0 is n (omega (arith, more, le)),
           subst (fits_body (resolving start) (bound_body (in_loop ss ForWord xs item) body)) (sym (loop-inside start ss h ForWord (inl refl) xs item r.0 is))
               (body-fits body (in_loop ss ForWord xs item) is (slots_turn ss ForWord xs item n) (loop-open start ss h ForWord (inl refl) xs item r.0 is) r.1 le),
         )
-    stmt-fits (Forall at xs word item intents body) ss is n h r le =
+    stmt-fits (Loop ForallWord at xs within item intents body) ss is n h r le =
         let more = body-grows body (in_loop ss ForallWord xs item) (slots_turn ss ForallWord xs item n) in
         let with = intents_of (option_map (renamed_with (bound_in ss)) intents) in
         let same : renamed_intents (bound_in ss) (intents_of intents) ≡ with = sym (intents_of-renamed (bound_in ss) intents) in
         let inner = in_loop ss ForallWord xs item in (
-          head-fits start ss h ForallWord (inr refl) xs item r.1 is,
-          head-suits start ss h ForallWord (inr refl) xs item r.1 is,
-          r.0,
-          turns-fit start ss h ForallWord (inr refl) xs item r.1 with n (omega (arith, more, le)),
-          subst (fits_body (resolving start) (bound_body inner body)) (sym (loop-inside start ss h ForallWord (inr refl) xs item r.1 with))
+          head-fits start ss h ForallWord (inr refl) xs item r.0 is,
+          head-suits start ss h ForallWord (inr refl) xs item r.0 is,
+          r.3.0,
+          turns-fit start ss h ForallWord (inr refl) xs item r.0 with n (omega (arith, more, le)),
+          subst (fits_body (resolving start) (bound_body inner body)) (sym (loop-inside start ss h ForallWord (inr refl) xs item r.0 with))
               (subst (λ js. fits_body (resolving start) (bound_body inner body) (seen_of inner js)) same
-              (body-fits body inner (renamed_intents (bound_in ss) (intents_of intents)) (slots_turn ss ForallWord xs item n) (loop-open start ss h ForallWord (inr refl) xs item r.1 is) r.3 le)),
+              (body-fits body inner (renamed_intents (bound_in ss) (intents_of intents)) (slots_turn ss ForallWord xs item n) (loop-open start ss h ForallWord (inr refl) xs item r.0 is) r.1 le)),
         )
-    stmt-fits (Coforall at xs word item intents body) ss is n h r le = absurd r
-    stmt-fits (On at e body) ss is n h r le = absurd r
+    stmt-fits (Loop CoforallWord at xs within item intents body) ss is n h r le = absurd r.3
 
     body-fits : (b : Body Text) (ss : Scopes) (is : List (Bound × Op)) (n : ℕ) → AreOpen ss → IsRunnableBody ss is b → slots_body ss b n ≤ start.slots → fits_body (resolving start) (bound_body ss b) (seen_of ss is)
     body-fits (WordBody at t) ss is n h r le = stmt-fits t ss is n h r le
@@ -207,18 +199,8 @@ module _ (start : Start) where
 
   -- ---- THE TOP LEVEL
   top-fits : (t : StmtTree Text) (ss : Scopes) (n : ℕ) → AreOpen ss → IsRunnableTop ss t → slots_stmt ss t n ≤ start.slots → AreOwed start (behind ss t) → fits_stmt (resolving start) (bound_stmt ss t) (seen_of ss [])
-  top-fits (Nothing at) ss n h r le owed = tt
   top-fits (Declare d) ss n h r le owed = declare-fits ss d r start (open-known ss h) [] (within ss n le) (given-owed start ss d (config-leaf ss d r) owed.1)
-  top-fits (Assigned target sign item semicolon) ss n h r le owed = stmt-fits (Assigned target sign item semicolon) ss [] n h r le
-  top-fits (Call x dot call semicolon) ss n h r le owed = absurd r
-  top-fits (Write w) ss n h r le owed = stmt-fits (Write w) ss [] n h r le
-  top-fits (Block from ts upto) ss n h r le owed = stmt-fits (Block from ts upto) ss [] n h r le
-  top-fits (If at e first second) ss n h r le owed = stmt-fits (If at e first second) ss [] n h r le
-  top-fits (While at e body) ss n h r le owed = stmt-fits (While at e body) ss [] n h r le
-  top-fits (For at xs word item body) ss n h r le owed = stmt-fits (For at xs word item body) ss [] n h r le
-  top-fits (Forall at xs word item intents body) ss n h r le owed = stmt-fits (Forall at xs word item intents body) ss [] n h r le
-  top-fits (Coforall at xs word item intents body) ss n h r le owed = absurd r
-  top-fits (On at e body) ss n h r le owed = absurd r
+  top-fits t ss n h r le owed = stmt-fits t ss [] n h r le
 
   tops-fit : (ts : Stmts Text) (ss : Scopes) (n : ℕ) → AreOpen ss → AreRunnableTops ss ts → slots_stmts ss ts n ≤ start.slots → AreOwed start (behind_all ss ts) → fits_all (resolving start) (bound_stmts ss ts) (seen_of ss [])
   tops-fit NoStmts ss n h r le owed = tt

@@ -7,7 +7,7 @@ use Rattle.std.proofs.lemmas.Option.{none-some}
 use Rattle.std.proofs.lemmas.Bool.Decides.{nat_tests}
 use Rattle.dpl_syntax.specs.declared.place.Place.{Place}
 use Rattle.dpl_syntax.specs.declared.refusal.Breach.{Breach}
-use Rattle.dpl_language.specs.Tree.{Placed, Kind, IntKind, BoolKind, ItemTree, One, RangeItem, VariablesTree, OneVariable, ManyVariables, MappedTree, DomainTypeTree, TypeTree, ScalarType, SyncType, DomainType, ArrayType, InitTree, ItemInit, CreateInit, TypedTree, InitialTree, DeclareTree, Declare}
+use Rattle.dpl_language.specs.Tree.{Placed, Kind, IntKind, BoolKind, ItemTree, One, RangeItem, VariablesTree, OneVariable, ManyVariables, MappedTree, DomainTypeTree, TypeTree, ScalarType, SyncType, DomainType, ArrayType, InitTree, ItemInit, CreateInit, TypedTree, InitialTree, DeclareTree, Declare, LoopWord, ForWord, ForallWord, CoforallWord}
 use Rattle.dpl_language.specs.Names.{Text}
 use Rattle.dpl_language.specs.Phrases.{ReadTree, item_read}
 use Rattle.dpl_language.specs.Declarations.{type_of as written_type}
@@ -23,7 +23,7 @@ use Rattle.dpl_rules.specs.Sights.{Declared, LoopVariable, Scopes, find, lookup,
 use Rattle.dpl_rules.specs.Expressions.{locales_or, none_where, item_type, item_breaches, cell_declared, read_or_type, kind_read, side_part, side_breaches}
 use Rattle.dpl_rules.specs.Maps.{mapped_breaches}
 use Rattle.dpl_rules.specs.Declarations.{type_rank, is_kept, is_untyped, unless_refused, declared_type, type_breaches, init_part, untyped_breaches, typed_initial, config_breaches, written_breaches, type_given, declaration_breaches, declared_by}
-use Rattle.dpl_rules.specs.Loops.{LoopWord, ForWord, ForallWord, CoforallWord, over_domains, over_locales, runs_over, one_type, fits_variables, variable_type, typed_variable, header_of, over_type, over_breaches, variables_of, add_variables, header_breaches, in_loop, behind, each_once}
+use Rattle.dpl_rules.specs.Loops.{over_domains, over_locales, runs_over, one_type, fits_variables, variable_type, typed_variable, header_of, over_type, over_breaches, variables_of, add_variables, header_breaches, in_loop, behind, each_once}
 use Rattle.dpl_rules.specs.Breaches.{top}
 use Rattle.dpl_rules.proofs.Admission.{first_empty, second_empty}
 use Rattle.dpl_sound.proofs.Given.{some-same, both_so}

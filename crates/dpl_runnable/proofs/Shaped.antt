@@ -8,7 +8,7 @@ use Rattle.std.proofs.lemmas.Option.{none-some}
 use Rattle.dpl_sets.specs.Indices.{tuples, indices}
 use Rattle.dpl_sets.specs.TextRanges.{TextRange}
 use Rattle.dpl_sets.specs.Ranges.{members_of}
-use Rattle.dpl_language.specs.Tree.{Op, Kind, IntKind, BoolKind, ItemTree}
+use Rattle.dpl_language.specs.Tree.{Op, Kind, IntKind, BoolKind, ItemTree, LoopWord}
 use Rattle.dpl_language.specs.Names.{Text}
 use Rattle.dpl_language.specs.Values.{Value, Index}
 use Rattle.dpl_language.specs.Ranges.{indices_in, loop_ranges, loop_value}
@@ -20,7 +20,7 @@ use Rattle.dpl_agreement.proofs.RenamedTwice.{renamed_item-twice}
 use Rattle.dpl_rules.specs.Types.{ValueType, Scalar, Range, Domain, Array, Promoted, Tuple, Locale, AllLocales, Cell}
 use Rattle.dpl_rules.specs.Sights.{Declared, Scopes, lookup, type_declared}
 use Rattle.dpl_rules.specs.Expressions.{item_type}
-use Rattle.dpl_rules.specs.Loops.{LoopWord, runs_over, one_type}
+use Rattle.dpl_rules.specs.Loops.{runs_over, one_type}
 use Rattle.dpl_sound.specs.Typed.{OfKind, MayStride, HasType, type_at, Fits}
 use Rattle.dpl_sound.proofs.Given.{some-same}
 use Rattle.dpl_sound.proofs.Outcomes.{item_sound}

@@ -5,13 +5,13 @@ use Rattle.dpl_syntax.specs.declared.place.Place.{Place}
 use Rattle.dpl_syntax.specs.declared.token.Token.{Token}
 use Rattle.dpl_syntax.specs.declared.token.Keyword.{Keyword}
 use Rattle.dpl_language.specs.Names.{Text}
-use Rattle.dpl_language.specs.Tree.{Placed, Stmts, Nothing, Declare, Assigned, Call, Write}
+use Rattle.dpl_language.specs.Tree.{Placed, Stmts, Declare}
 use Rattle.dpl_grammar.specs.Each.{Each}
 use Rattle.dpl_grammar.specs.Rule.{Deep, below, deep}
 use Rattle.dpl_grammar.proofs.Values.{never_holds, OfRule, OfLate, of_any, of_token, of_either, of_many, of_whole, of_part, of_deeper, of_parts, of_closed, of_choice, of_ended, of_dangling, of_last, of_lower}
 use Rattle.dpl_spelling.specs.Nested.{Nested, Value, Statement, ItemBelow, ExpressionBelow, NegBelow, NotBelow, RedBelow, StartBelow, InsideBelow, StatementBelow, PlainBelow, nested, Rule, Late}
 use Rattle.dpl_spelling.specs.Declarations.{declare_end, declaration, config_declaration}
-use Rattle.dpl_spelling.specs.Statements.{assignment_end, call_end, named_statement, output, stmts_of, block, part, body, Conditional, consequence, Otherwise, alternative, if_else, while_loop, on_locale, variables, Loop, loop_head, for_loop, ParallelLoop, parallel_head, forall_loop, coforall_loop, simple_statement, plain_statement, statement}
+use Rattle.dpl_spelling.specs.Statements.{assignment_end, call_end, named_statement, output, stmts_of, block, part, body, Conditional, consequence, Otherwise, alternative, if_else, while_loop, on_locale, variables, LoopHead, loop_head, for_loop, ParallelHead, parallel_head, forall_loop, coforall_loop, simple_statement, plain_statement, statement}
 use Rattle.dpl_spelling.specs.Grammar.{Program, top, tops, program, grammar}
 use Rattle.dpl_spelling.specs.Theorem.{Spells}
 use Rattle.dpl_runnable.specs.Written.{HasSeveral, IsWrittenStmt, IsWrittenBody, AreWrittenStmts, IsWrittenTop, AreWrittenTops}
@@ -41,11 +41,7 @@ tops-written (s ∷ ss) h = (h.0, tops-written ss h.1)
 
 -- a statement that may stand below the top level may stand there
 top-written : (t : Statement) → IsWrittenStmt t → IsWrittenTop t
-top-written (Nothing at) h = tt
 top-written (Declare d) h = tt
-top-written (Assigned target sign item semicolon) h = tt
-top-written (Call x dot call semicolon) h = tt
-top-written (Write w) h = tt
 top-written _ h = h
 
 as_top : (g : Deep nested) {r : Rule Statement} → OfRule g Anything r IsWrittenStmt → OfRule g Anything r IsWrittenTop
@@ -142,7 +138,7 @@ module _ (g : Deep nested) (inner : (n : Nested) → OfRule g Anything (below n)
       of_either (of_parts (of_last of_any (λ x p. tt)))
       (of_parts (of_deeper (λ k p. of_part of_any (λ x q. of_part of_any (λ y r. of_part of_any (λ z s. of_last of_token (λ l t e. absurd cc)))))))
 
-  abbrev IsWrittenLoop : Loop → Type 0
+  abbrev IsWrittenLoop : LoopHead → Type 0
   IsWrittenLoop l = HasSeveral l.variables
 
   loop_head-written : (word : Keyword) → Is (loop_head word) IsWrittenLoop
@@ -153,7 +149,7 @@ module _ (g : Deep nested) (inner : (n : Nested) → OfRule g Anything (below n)
   unfolding for_loop
   for_loop-written = of_ended IsWrittenLoop IsWrittenBody (loop_head-written _) (body-written _) (λ h b p q. (p, q))
 
-  abbrev IsWrittenParallel : ParallelLoop → Type 0
+  abbrev IsWrittenParallel : ParallelHead → Type 0
   IsWrittenParallel l = IsWrittenLoop l.loop
 
   parallel_head-written : (word : Keyword) → Is (parallel_head word) IsWrittenParallel

@@ -1,20 +1,22 @@
 -- A statement that a text spells, that needs nothing which doesn't run and that breaks no rule is runnable, where each name in
 -- sight has a type of some kind; and so is a program.
 use Rattle.std.proofs.Common.{◌≡◌, [], ◌++◌, Option, Some, None, refl}
-use Rattle.dpl_language.specs.Tree.{Whole, Element, StmtTree, Nothing, Declare, Assigned, Call, Write, Block, If, While, For, Forall, Coforall, On, Body, WordBody, BlockBody, Stmts, NoStmts, Then, Else, NoElse, ElseDo}
+use Rattle.dpl_language.specs.Tree.{ExprTree, Whole, Element, HeadWord, WhileWord, OnWord, ForWord, ForallWord, CoforallWord, StmtTree, Nothing, Declare, Assigned, Call, Write, Block, If, Headed, Loop, Body, WordBody, BlockBody, Stmts, NoStmts, Then, Else, NoElse, ElseDo}
 use Rattle.dpl_language.specs.Names.{Text}
-use Rattle.dpl_spelling.specs.Spelt.{StmtSpelt, BodySpelt, StmtsSpelt, ElseSpelt}
-use Rattle.dpl_agreement.specs.Untasked.{UntaskedStmt, UntaskedBody, UntaskedStmts, UntaskedElse}
+use Rattle.dpl_spelling.specs.Spelt.{ExprSpelt, StmtSpelt, BodySpelt, StmtsSpelt, ElseSpelt}
+use Rattle.dpl_agreement.specs.Untasked.{UntaskedExpr, UntaskedHead, UntaskedStmt, UntaskedBody, UntaskedStmts, UntaskedElse}
 use Rattle.dpl_rules.specs.Sights.{Scopes, enter}
 use Rattle.dpl_rules.specs.Assignments.{assignment_breaches, condition_breaches}
-use Rattle.dpl_rules.specs.Loops.{ForWord, ForallWord, header_breaches, with_breaches, behind, in_loop}
+use Rattle.dpl_rules.specs.Loops.{header_breaches, with_breaches, behind, in_loop}
 use Rattle.dpl_rules.specs.Deeds.{expr_deeds, item_deeds}
-use Rattle.dpl_rules.specs.Doings.{with_deeds, stmt_deeds, body_deeds, stmts_deeds, else_deeds}
+use Rattle.dpl_rules.specs.Doings.{with_deeds, head_held, stmt_deeds, body_deeds, stmts_deeds, else_deeds}
 use Rattle.dpl_rules.specs.Bodies.{forall_scope, written_arrays, forall_breaches, promoted_breaches}
-use Rattle.dpl_rules.specs.Breaches.{top, top_sight, in_forall, stmt_breaches, body_breaches, stmts_breaches, else_breaches}
+use Rattle.dpl_rules.specs.Breaches.{top, top_sight, in_turn, head_breaches, stmt_breaches, body_breaches, stmts_breaches, else_breaches}
 use Rattle.dpl_rules.proofs.Admission.{first_empty, second_empty}
+use Rattle.dpl_words.specs.Words.{TruthLeaf}
+use Rattle.dpl_memory.specs.Memory.{PlainKind}
 use Rattle.dpl_nodes.specs.Spots.{IsNear}
-use Rattle.dpl_runnable.specs.Runnable.{IsRunnableStmt, IsRunnableBody, AreRunnableStmts, IsRunnableElse, IsRunnableTop, AreRunnableTops}
+use Rattle.dpl_runnable.specs.Runnable.{IsExprOf, IsRunnableStmt, IsRunnableBody, AreRunnableStmts, IsRunnableElse, IsRunnableTop, AreRunnableTops}
 use Rattle.dpl_runnable.specs.Written.{IsWrittenStmt, IsWrittenBody, AreWrittenStmts, IsWrittenElse, IsWrittenTop, AreWrittenTops}
 use Rattle.dpl_runnable.proofs.Scopes.{top-variables, in_loop-variables}
 use Rattle.dpl_runnable.proofs.Declared.{runnable_declare}
@@ -23,6 +25,12 @@ use Rattle.dpl_runnable.proofs.Printed.{runnable_arguments, runnable_condition}
 use Rattle.dpl_runnable.proofs.Loops.{runnable_header}
 use Rattle.dpl_runnable.proofs.Reduced.{runnable_intents, inside-outer, inside-loop}
 use Rattle.dpl_runnable.proofs.Around.{Turning, forall_by, intents_by, sight_by, Stands, MayDoIn, first-done, second-done, forall-refuted, enter-stands, loop-stands, behind-stands, reduced-around}
+
+-- an expression behind a word that runs is a condition
+runnable_head : (word : HeadWord) (f : Option Turning) (ss : Scopes) → Stands f ss → (e : ExprTree Text) → ExprSpelt IsNear ⊥ e → UntaskedExpr e → UntaskedHead word
+    → head_breaches (sight_by f ss) word e ≡ [] → IsExprOf ss e (PlainKind TruthLeaf)
+runnable_head WhileWord f ss stands e s c runs h = runnable_condition ss stands.names (forall_by f) e s c h
+runnable_head OnWord f ss stands e s c runs h = absurd runs
 
 mutual
   pub runnable_stmt : (t : StmtTree Text) (f : Option Turning) (ss : Scopes) → Stands f ss → StmtSpelt IsNear ⊥ t → IsWrittenStmt t → UntaskedStmt t
@@ -58,42 +66,43 @@ mutual
         runnable_else second f ss stands s.3 w.1 c.2 (second_empty (test ++ one) other h)
             (second-done f (tested ++ first_deeds) second_deeds m),
       )
-  runnable_stmt (While at e body) f ss stands s w c h m =
-      let test = condition_breaches (sight_by f ss) e in
+  runnable_stmt (Headed word at e body) f ss stands s w c h m =
+      let test = head_breaches (sight_by f ss) word e in
       let others = body_breaches (sight_by f (enter ss)) body in (
-        runnable_condition ss stands.names (forall_by f) e s.1 c.0 (first_empty test others h),
+        runnable_head word f ss stands e s.1 c.0 c.2 (first_empty test others h),
         runnable_body body f (enter ss) (enter-stands f ss stands) s.2 w c.1 (second_empty test others h)
-            (second-done f (expr_deeds ss e) (body_deeds (enter ss) body) m),
+            (second-done f (head_held word at ++ expr_deeds ss e) (body_deeds (enter ss) body) m),
         s.0,
+        c.2,
       )
-  runnable_stmt (For at xs word item body) f ss stands s w c h m =
+  runnable_stmt (Loop ForWord at xs within item intents body) f ss stands s w c h m =
       let inner = in_loop ss ForWord xs item in
       let head = header_breaches ss ForWord xs item in
+      let intended = with_breaches ss intents in
       let others = body_breaches (sight_by f inner) body in
       let closed = c.0 in
-      let headed = first_empty head others h in (
+      let headed = first_empty head intended (first_empty (head ++ intended) [] (first_empty (head ++ intended ++ []) others h)) in (
         runnable_header ss stands.names ForWord xs item w.0 s.3 closed headed,
-        runnable_body body f inner (loop-stands IsNear ss f ForWord xs item stands s.3 closed headed) s.4 w.1 c.1 (second_empty head others h)
-            (second-done f (item_deeds ss item) (body_deeds inner body) m),
+        runnable_body body f inner (loop-stands IsNear ss f ForWord xs item stands s.3 closed headed) s.5 w.1 c.1 (second_empty (head ++ intended ++ []) others h)
+            (second-done f (item_deeds ss item ++ with_deeds intents) (body_deeds inner body) m),
         s.0,
+        tt,
       )
-  runnable_stmt (Forall at xs word item intents body) None ss stands s w c h m =
+  runnable_stmt (Loop ForallWord at xs within item intents body) None ss stands s w c h m =
       let inner = in_loop ss ForallWord xs item in
       let ds = body_deeds inner body in
       let loop = forall_scope ss xs intents in
       let head = header_breaches ss ForallWord xs item in
       let intended = with_breaches ss intents in
       let told = forall_breaches loop ds in
-      let others = body_breaches (in_forall (sight_by None ss) xs item intents) body in
+      let others = body_breaches (in_turn (sight_by None ss) ForallWord xs item intents) body in
       let front = first_empty (head ++ intended ++ told) others h in
       let heads = first_empty (head ++ intended) told front in
       let headed = first_empty head intended heads in
       let none = second_empty head intended heads in
       let closed = c.0 in
       let f : Turning = record { outer = ss; variables = xs; intents = intents; written = written_arrays loop ds } in (
-        refl,
         runnable_header ss stands.names ForallWord xs item w.0 s.3 closed headed,
-        runnable_intents ss stands.names intents none,
         runnable_body body (Some f) inner
             (record {
               names = in_loop-variables ss IsNear stands.names ForallWord xs item s.3 closed headed;
@@ -101,11 +110,11 @@ mutual
             })
             s.5 w.1 c.1 (second_empty (head ++ intended ++ told) others h) (second_empty (head ++ intended) told front),
         s.0,
+        (refl, runnable_intents ss stands.names intents none),
       )
-  runnable_stmt (Forall at xs word item intents body) (Some f) ss stands s w c h m =
+  runnable_stmt (Loop ForallWord at xs within item intents body) (Some f) ss stands s w c h m =
       absurd (forall-refuted f at (item_deeds ss item ++ with_deeds intents ++ body_deeds (in_loop ss ForallWord xs item) body) m)
-  runnable_stmt (Coforall at xs word item intents body) f ss stands s w c h m = absurd c
-  runnable_stmt (On at e body) f ss stands s w c h m = absurd c
+  runnable_stmt (Loop CoforallWord at xs within item intents body) f ss stands s w c h m = absurd c.2
 
   runnable_body : (t : Body Text) (f : Option Turning) (ss : Scopes) → Stands f ss → BodySpelt IsNear ⊥ t → IsWrittenBody t → UntaskedBody t
       → body_breaches (sight_by f ss) t ≡ [] → MayDoIn f (body_deeds ss t) → IsRunnableBody ss (intents_by f) t
@@ -133,18 +142,8 @@ mutual
 
 -- ---- the top level
 runnable_top : (t : StmtTree Text) (ss : Scopes) → Stands None ss → StmtSpelt IsNear ⊥ t → IsWrittenTop t → UntaskedStmt t → stmt_breaches (sight_by None ss) t ≡ [] → IsRunnableTop ss t
-runnable_top (Nothing at) ss stands s w c h = tt
 runnable_top (Declare d) ss stands s w c h = runnable_declare ss stands.names d s c h
-runnable_top (Assigned target sign item semicolon) ss stands s w c h = runnable_stmt (Assigned target sign item semicolon) None ss stands s tt c h tt
-runnable_top (Call x dot call semicolon) ss stands s w c h = runnable_stmt (Call x dot call semicolon) None ss stands s tt c h tt
-runnable_top (Write t) ss stands s w c h = runnable_stmt (Write t) None ss stands s tt c h tt
-runnable_top (Block from ts upto) ss stands s w c h = runnable_stmt (Block from ts upto) None ss stands s w c h tt
-runnable_top (If at e first second) ss stands s w c h = runnable_stmt (If at e first second) None ss stands s w c h tt
-runnable_top (While at e body) ss stands s w c h = runnable_stmt (While at e body) None ss stands s w c h tt
-runnable_top (For at xs word item body) ss stands s w c h = runnable_stmt (For at xs word item body) None ss stands s w c h tt
-runnable_top (Forall at xs word item intents body) ss stands s w c h = runnable_stmt (Forall at xs word item intents body) None ss stands s w c h tt
-runnable_top (Coforall at xs word item intents body) ss stands s w c h = absurd c
-runnable_top (On at e body) ss stands s w c h = absurd c
+runnable_top t ss stands s w c h = runnable_stmt t None ss stands s w c h tt
 
 runnable_tops : (ts : Stmts Text) (ss : Scopes) → Stands None ss → StmtsSpelt IsNear ⊥ ts → AreWrittenTops ts → UntaskedStmts ts → stmts_breaches (sight_by None ss) ts ≡ [] → AreRunnableTops ss ts
 runnable_tops NoStmts ss stands s w c h = tt

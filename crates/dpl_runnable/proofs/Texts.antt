@@ -3,14 +3,14 @@
 use Rattle.std.proofs.Common.{◌≡◌, List, [], ◌∷◌, map, Option, Some, None, refl, ap, ◌∙◌}
 use Rattle.std.specs.Prelude.{option_map}
 use Rattle.dpl_language.specs.Tree.{Placed, AfterComma, Listed, ExprTree, ItemTree, StartTree, StartExpr, StartTuple, MapTree, BlockMap, CyclicMap, BlockCyclicMap, MappedTree, TypeTree, ScalarType, SyncType, DomainType, ArrayType, InitTree, ItemInit, CreateInit, DeclareTree}
-use Rattle.dpl_language.specs.Tree.{ArgumentTree, TextArgument, ExprArgument, WriteTree, IntentTree, ReduceIntent, RefIntent, WithTree, VariablesTree, OneVariable, ManyVariables, TargetTree, Whole, Element, CallTree, ReadCall, ResetCall, WriteCall, StmtTree, Nothing, Declare, Assigned, Call, Write, Block, If, While, For, Forall, Coforall, On, Body, WordBody, BlockBody, Stmts, NoStmts, Then, Else, NoElse, ElseDo, ProgramTree}
+use Rattle.dpl_language.specs.Tree.{ArgumentTree, TextArgument, ExprArgument, WriteTree, IntentTree, ReduceIntent, RefIntent, WithTree, VariablesTree, OneVariable, ManyVariables, TargetTree, Whole, Element, CallTree, ReadCall, ResetCall, WriteCall, LoopWord, StmtTree, Nothing, Declare, Assigned, Call, Write, Block, If, Headed, Loop, Body, WordBody, BlockBody, Stmts, NoStmts, Then, Else, NoElse, ElseDo, ProgramTree}
 use Rattle.dpl_language.specs.Names.{Text}
 use Rattle.dpl_agreement.specs.Renamed.{map_comma, map_listed, renamed, renamed_expr, renamed_item, renamed_start, renamed_map, renamed_mapped, renamed_type, renamed_typed, renamed_init, renamed_initial, renamed_argument, renamed_write, renamed_intent, renamed_with, renamed_variables, renamed_target, renamed_call, renamed_stmt, renamed_body, renamed_stmts, renamed_else, renamed_program}
 use Rattle.dpl_agreement.proofs.RenamedSame.{renamed_expr-same, renamed_item-same, renamed_exprs-same, renamed_items-same}
 use Rattle.dpl_agreement.proofs.RenamedTwice.{renamed_expr-twice, renamed_item-twice, renamed_exprs-twice, renamed_items-twice}
 use Rattle.dpl_rules.specs.Types.{ValueType}
 use Rattle.dpl_rules.specs.Sights.{Scopes, enter, add}
-use Rattle.dpl_rules.specs.Loops.{LoopWord, ForWord, ForallWord, CoforallWord, in_loop, behind}
+use Rattle.dpl_rules.specs.Loops.{in_loop, behind}
 use Rattle.dpl_rules.specs.Breaches.{top}
 use Rattle.dpl_memory.specs.Resolved.{text_of}
 use Rattle.dpl_bound.specs.Sights.{bound_in}
@@ -128,15 +128,10 @@ mutual
   stmt-back (If at e first second) ss =
       ap (λ x. If at x (renamed_body text_of (bound_body (enter ss) first)) (renamed_else text_of (bound_else ss second))) (expr-back ss e)
       ∙ both (If at e) (body-back first (enter ss)) (else-back second ss)
-  stmt-back (While at e body) ss = both (While at) (expr-back ss e) (body-back body (enter ss))
-  stmt-back (For at xs word item body) ss = loop-back ss ForWord xs item body (λ ys i b. For at ys word i b) (body-back body (in_loop ss ForWord xs item))
-  stmt-back (Forall at xs word item intents body) ss =
-      loop-back ss ForallWord xs item body (λ ys i b. Forall at ys word i (option_map (renamed_with text_of) (option_map (renamed_with (bound_in ss)) intents)) b) (body-back body (in_loop ss ForallWord xs item))
-      ∙ ap (λ w. Forall at xs word item w body) (any_with-back ss intents)
-  stmt-back (Coforall at xs word item intents body) ss =
-      loop-back ss CoforallWord xs item body (λ ys i b. Coforall at ys word i (option_map (renamed_with text_of) (option_map (renamed_with (bound_in ss)) intents)) b) (body-back body (in_loop ss CoforallWord xs item))
-      ∙ ap (λ w. Coforall at xs word item w body) (any_with-back ss intents)
-  stmt-back (On at e body) ss = both (On at) (expr-back ss e) (body-back body (enter ss))
+  stmt-back (Headed word at e body) ss = both (Headed word at) (expr-back ss e) (body-back body (enter ss))
+  stmt-back (Loop word at xs within item intents body) ss =
+      loop-back ss word xs item body (λ ys i b. Loop word at ys within i (option_map (renamed_with text_of) (option_map (renamed_with (bound_in ss)) intents)) b) (body-back body (in_loop ss word xs item))
+      ∙ ap (λ w. Loop word at xs within item w body) (any_with-back ss intents)
 
   body-back : (b : Body Text) (ss : Scopes) → renamed_body text_of (bound_body ss b) ≡ b
   body-back (WordBody at t) ss = ap (WordBody at) (stmt-back t ss)

@@ -3,7 +3,7 @@
 use Rattle.std.proofs.Common.{◌≡◌, ℕ, ◌+◌, ◌<◌, ◌≤◌, false, List, [], ◌∷◌, refl, sym, ap, ◌∙◌, subst, arith, map, Option, Some, None}
 use Rattle.std.specs.Prelude.{max, if◌then◌else◌}
 use Rattle.std.proofs.lemmas.Option.{none-some}
-use Rattle.dpl_language.specs.Tree.{Placed, AfterComma, Op, ItemTree, VariablesTree, OneVariable, ManyVariables}
+use Rattle.dpl_language.specs.Tree.{Placed, AfterComma, Op, ItemTree, VariablesTree, OneVariable, ManyVariables, LoopWord}
 use Rattle.dpl_language.specs.Values.{Int}
 use Rattle.dpl_language.specs.Names.{Text}
 use Rattle.dpl_language.specs.Phrases.{parts}
@@ -12,7 +12,7 @@ use Rattle.dpl_agreement.specs.Renamed.{renamed_item}
 use Rattle.dpl_rules.specs.Types.{ValueType}
 use Rattle.dpl_rules.specs.Sights.{Declared, Scopes, enter, add}
 use Rattle.dpl_rules.specs.Expressions.{item_type}
-use Rattle.dpl_rules.specs.Loops.{LoopWord, runs_over, one_type, typed_variable, variables_of, add_variables}
+use Rattle.dpl_rules.specs.Loops.{runs_over, one_type, typed_variable, variables_of, add_variables}
 use Rattle.dpl_scopes.specs.Slots.{next_slot_in}
 use Rattle.dpl_words.specs.Words.{IntLeaf, TruthLeaf, RangeLeaf, LocaleLeaf}
 use Rattle.dpl_memory.specs.Memory.{VariableKind, PlainKind, DomainKind, TupleKind, CellKind, ArrayKind}

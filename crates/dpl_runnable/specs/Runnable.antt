@@ -3,11 +3,12 @@
 use Rattle.std.specs.Prelude.{◌≡◌, ◌≢◌, ℕ, nat_le, true, false, ◌&&◌, List, [], ◌∷◌, Option, Some, None}
 use Rattle.dpl_syntax.specs.declared.place.Place.{Place}
 use Rattle.dpl_language.specs.Tree.{Op, Assign, Set, SetAdd, SetSubtract, SetMultiply, SetDivide, SetRemainder, SetReduce, Placed, Kind, ExprTree, Named, Exprs, ItemTree, TypeTree, ScalarType, SyncType, DomainType, ArrayType, CreateTree, MappedTree, InitTree, ItemInit, CreateInit, InitialTree, DeclareTree}
-use Rattle.dpl_language.specs.Tree.{ArgumentTree, TextArgument, ExprArgument, IntentTree, ReduceIntent, RefIntent, WithTree, VariablesTree, OneVariable, ManyVariables, Whole, Element, StmtTree, Nothing, Declare, Assigned, Call, Write, Block, If, While, For, Forall, Coforall, On, Body, WordBody, BlockBody, Stmts, NoStmts, Then, Else, NoElse, ElseDo}
+use Rattle.dpl_language.specs.Tree.{ArgumentTree, TextArgument, ExprArgument, IntentTree, ReduceIntent, RefIntent, WithTree, VariablesTree, OneVariable, ManyVariables, Whole, Element, LoopWord, ForWord, ForallWord, CoforallWord, StmtTree, Nothing, Declare, Assigned, Call, Write, Block, If, Headed, Loop, Body, WordBody, BlockBody, Stmts, NoStmts, Then, Else, NoElse, ElseDo}
 use Rattle.dpl_language.specs.Names.{Text, paired}
 use Rattle.dpl_language.specs.Phrases.{parts, intents_of}
 use Rattle.dpl_language.specs.Declarations.{type_of as written_type}
 use Rattle.dpl_language.specs.Roots.{type_map}
+use Rattle.dpl_agreement.specs.Untasked.{UntaskedHead}
 use Rattle.dpl_agreement.specs.Scopes.{initial_map}
 use Rattle.dpl_agreement.specs.Renamed.{renamed_intents}
 use Rattle.dpl_language.specs.Writing.{arguments_of}
@@ -17,7 +18,7 @@ use Rattle.dpl_rules.specs.Verdicts.{type_by}
 use Rattle.dpl_rules.specs.Operators.{over_verdict}
 use Rattle.dpl_rules.specs.Expressions.{type_of, item_type, item_parts}
 use Rattle.dpl_rules.specs.Declarations.{declared_by}
-use Rattle.dpl_rules.specs.Loops.{ForWord, ForallWord, fits_variables, in_loop, behind, each_once, variables_of}
+use Rattle.dpl_rules.specs.Loops.{fits_variables, in_loop, behind, each_once, variables_of}
 use Rattle.dpl_scopes.specs.Slots.{slot_in}
 use Rattle.dpl_words.specs.Words.{IntLeaf, TruthLeaf, RangeLeaf, LocaleLeaf}
 use Rattle.dpl_memory.specs.Memory.{VariableKind, PlainKind, DomainKind, TupleKind, CellKind, ArrayKind}
@@ -223,7 +224,17 @@ abbrev pub HasRunnableIntents : Scopes → Option (WithTree Text) → Type 0
 HasRunnableIntents ss None = Unit {0}
 HasRunnableIntents ss (Some w) = AreRunnableIntents ss (parts w.intents)
 
--- STATEMENTS. A `config const` stands at the top level alone, and a forall in none with reduce variables.
+-- A forall stands in none with reduce variables, and has its own in its turns.
+abbrev pub IsRunnableLoop : Scopes → List (Bound × Op) → LoopWord → Option (WithTree Text) → Type 0
+IsRunnableLoop ss is ForWord intents = Unit {0}
+IsRunnableLoop ss is ForallWord intents = (is ≡ []) × HasRunnableIntents ss intents
+IsRunnableLoop ss is CoforallWord intents = ⊥
+
+abbrev pub reduced_in : Scopes → List (Bound × Op) → LoopWord → Option (WithTree Text) → List (Bound × Op)
+reduced_in ss is ForallWord intents = renamed_intents (bound_in ss) (intents_of intents)
+reduced_in ss is _ intents = is
+
+-- STATEMENTS. A `config const` stands at the top level alone.
 abbrev mutual
   pub IsRunnableStmt : Scopes → List (Bound × Op) → StmtTree Text → Type 0
   IsRunnableStmt ss is (Nothing at) = Unit {0}
@@ -234,13 +245,10 @@ abbrev mutual
   IsRunnableStmt ss is (Write w) = AreRunnableArguments ss (arguments_of w.arguments)
   IsRunnableStmt ss is (Block from ts upto) = AreRunnableStmts (enter ss) is ts
   IsRunnableStmt ss is (If at e first second) = IsExprOf ss e (PlainKind TruthLeaf) × IsRunnableBody (enter ss) is first × IsRunnableElse ss is second
-  IsRunnableStmt ss is (While at e body) = IsExprOf ss e (PlainKind TruthLeaf) × IsRunnableBody (enter ss) is body × IsNear at
-  IsRunnableStmt ss is (For at xs word item body) = IsRunnableHeader ss xs item × IsRunnableBody (in_loop ss ForWord xs item) is body × IsNear at
-  IsRunnableStmt ss is (Forall at xs word item intents body) =
-      (is ≡ []) × IsRunnableHeader ss xs item × HasRunnableIntents ss intents
-      × IsRunnableBody (in_loop ss ForallWord xs item) (renamed_intents (bound_in ss) (intents_of intents)) body × IsNear at
-  IsRunnableStmt ss is (Coforall at xs word item intents body) = ⊥
-  IsRunnableStmt ss is (On at e body) = ⊥
+  IsRunnableStmt ss is (Headed word at e body) = IsExprOf ss e (PlainKind TruthLeaf) × IsRunnableBody (enter ss) is body × IsNear at × UntaskedHead word
+  IsRunnableStmt ss is (Loop word at xs within item intents body) =
+      IsRunnableHeader ss xs item × IsRunnableBody (in_loop ss word xs item) (reduced_in ss is word intents) body × IsNear at
+      × IsRunnableLoop ss is word intents
 
   -- a body, in the scope that was opened for it
   pub IsRunnableBody : Scopes → List (Bound × Op) → Body Text → Type 0
@@ -257,18 +265,8 @@ abbrev mutual
 
 -- THE TOP LEVEL
 abbrev pub IsRunnableTop : Scopes → StmtTree Text → Type 0
-IsRunnableTop ss (Nothing at) = Unit {0}
 IsRunnableTop ss (Declare d) = IsRunnableDeclare ss d
-IsRunnableTop ss (Assigned target sign item semicolon) = IsRunnableStmt ss [] (Assigned target sign item semicolon)
-IsRunnableTop ss (Call x dot call semicolon) = ⊥
-IsRunnableTop ss (Write w) = IsRunnableStmt ss [] (Write w)
-IsRunnableTop ss (Block from ts upto) = IsRunnableStmt ss [] (Block from ts upto)
-IsRunnableTop ss (If at e first second) = IsRunnableStmt ss [] (If at e first second)
-IsRunnableTop ss (While at e body) = IsRunnableStmt ss [] (While at e body)
-IsRunnableTop ss (For at xs word item body) = IsRunnableStmt ss [] (For at xs word item body)
-IsRunnableTop ss (Forall at xs word item intents body) = IsRunnableStmt ss [] (Forall at xs word item intents body)
-IsRunnableTop ss (Coforall at xs word item intents body) = ⊥
-IsRunnableTop ss (On at e body) = ⊥
+IsRunnableTop ss t = IsRunnableStmt ss [] t
 
 abbrev pub AreRunnableTops : Scopes → Stmts Text → Type 0
 AreRunnableTops ss NoStmts = Unit {0}

@@ -7,9 +7,9 @@ use Rattle.dpl_grammar.specs.Classes.{in_class, task_words, first_of}
 use Rattle.dpl_grammar.specs.Each.{Each, IfThere}
 use Rattle.dpl_language.specs.Names.{Text}
 use Rattle.dpl_language.specs.Tree.{AfterComma, Listed, ExprTree, Number, TruthWord, Named, LocalesWord, LocaleCount, HereWord, Grouped, DomainLiteral, Prefixed, Reduced, Chain, Postfixed, ItemTree, One, RangeItem, Stride, NoStride, By, Links, NoLinks, Link, Posts, NoPosts, Post, PostTree, Brackets, Rounds, Dotted, MethodTree, Plainly, Dim, Contains, Expand, CellRead, Items, FirstItem, MoreItems, NoItems, NextItem, Exprs, FirstExpr, MoreExprs, NoExprs, NextExpr}
-use Rattle.dpl_language.specs.Tree.{StartTree, StartExpr, StartTuple, MapTree, BlockMap, CyclicMap, BlockCyclicMap, MappedTree, TypeTree, ScalarType, SyncType, DomainType, ArrayType, InitTree, ItemInit, CreateInit, DeclareTree, ArgumentTree, TextArgument, ExprArgument, WriteTree, TargetTree, Whole, Element, CallTree, ReadCall, ResetCall, WriteCall, StmtTree, Nothing, Declare, Assigned, Call, Write, Block, If, While, For, Forall, Coforall, On, Body, WordBody, BlockBody, Stmts, NoStmts, Then, Else, NoElse, ElseDo, ProgramTree}
-use Rattle.dpl_agreement.specs.Untasked.{UntaskedIf, UntaskedOthers, UntaskedList, UntaskedExpr, UntaskedItem, UntaskedStride, UntaskedLinks, UntaskedPosts, UntaskedPost, UntaskedMethod, UntaskedItems, UntaskedMoreItems, UntaskedExprs, UntaskedMoreExprs, UntaskedStart, UntaskedMap, UntaskedMapped, UntaskedType, UntaskedInit, UntaskedTyped, UntaskedInitial, UntaskedDeclare, UntaskedArgument, UntaskedWrite, UntaskedTarget, UntaskedCall, UntaskedStmt, UntaskedBody, UntaskedStmts, UntaskedElse}
-use Rattle.dpl_spelling.specs.Spelt.{PartSpelt, ListSpelt, ExprSpelt, ItemSpelt, StrideSpelt, LinksSpelt, PostsSpelt, PostSpelt, MethodSpelt, ItemsSpelt, MoreItemsSpelt, ExprsSpelt, MoreExprsSpelt, StartSpelt, MapSpelt, MappedSpelt, TypeSpelt, InitSpelt, TypedSpelt, InitialSpelt, DeclareSpelt, ArgumentSpelt, WriteSpelt, TargetSpelt, CallSpelt, StmtSpelt, BodySpelt, StmtsSpelt, ElseSpelt}
+use Rattle.dpl_language.specs.Tree.{StartTree, StartExpr, StartTuple, MapTree, BlockMap, CyclicMap, BlockCyclicMap, MappedTree, TypeTree, ScalarType, SyncType, DomainType, ArrayType, InitTree, ItemInit, CreateInit, DeclareTree, ArgumentTree, TextArgument, ExprArgument, WriteTree, TargetTree, Whole, Element, CallTree, ReadCall, ResetCall, WriteCall, HeadWord, WhileWord, OnWord, LoopWord, ForWord, ForallWord, CoforallWord, StmtTree, Nothing, Declare, Assigned, Call, Write, Block, If, Headed, Loop, Body, WordBody, BlockBody, Stmts, NoStmts, Then, Else, NoElse, ElseDo, ProgramTree}
+use Rattle.dpl_agreement.specs.Untasked.{UntaskedIf, UntaskedOthers, UntaskedList, UntaskedExpr, UntaskedItem, UntaskedStride, UntaskedLinks, UntaskedPosts, UntaskedPost, UntaskedMethod, UntaskedItems, UntaskedMoreItems, UntaskedExprs, UntaskedMoreExprs, UntaskedStart, UntaskedMap, UntaskedMapped, UntaskedType, UntaskedInit, UntaskedTyped, UntaskedInitial, UntaskedDeclare, UntaskedArgument, UntaskedWrite, UntaskedTarget, UntaskedCall, UntaskedHead, UntaskedLoop, UntaskedStmt, UntaskedBody, UntaskedStmts, UntaskedElse}
+use Rattle.dpl_spelling.specs.Spelt.{PartSpelt, ListSpelt, ExprSpelt, ItemSpelt, StrideSpelt, LinksSpelt, PostsSpelt, PostSpelt, MethodSpelt, ItemsSpelt, MoreItemsSpelt, ExprsSpelt, MoreExprsSpelt, StartSpelt, MapSpelt, MappedSpelt, TypeSpelt, InitSpelt, TypedSpelt, InitialSpelt, DeclareSpelt, ArgumentSpelt, WriteSpelt, TargetSpelt, CallSpelt, HeadWordSpelt, LoopWordSpelt, StmtSpelt, BodySpelt, StmtsSpelt, ElseSpelt}
 use Rattle.dpl_spelling.specs.Theorem.{Spells}
 use Rattle.dpl_spelling.proofs.Spelt.{TokenSpelt}
 use Rattle.dpl_spelling.proofs.SpeltStatements.{Spells-spelt}
@@ -133,6 +133,15 @@ module _ (P : Place → Type 0) where
   call-untasked (ResetCall at from upto) s = tt
   call-untasked (WriteCall at w from e upto) s = expr-untasked e s.2
 
+  head-untasked : (word : HeadWord) → HeadWordSpelt P ⊥ word → UntaskedHead word
+  head-untasked WhileWord s = tt
+  head-untasked OnWord s = s
+
+  loop-untasked : (word : LoopWord) → LoopWordSpelt P ⊥ word → UntaskedLoop word
+  loop-untasked ForWord s = tt
+  loop-untasked ForallWord s = tt
+  loop-untasked CoforallWord s = s
+
   mutual
     stmt-untasked : (t : StmtTree Text) → StmtSpelt P ⊥ t → UntaskedStmt t
     stmt-untasked (Nothing at) s = tt
@@ -142,11 +151,8 @@ module _ (P : Place → Type 0) where
     stmt-untasked (Write w) s = write-untasked w s
     stmt-untasked (Block from body upto) s = stmts-untasked body s.1
     stmt-untasked (If at e first second) s = (expr-untasked e s.1, body-untasked first s.2, else-untasked second s.3)
-    stmt-untasked (While at e body) s = (expr-untasked e s.1, body-untasked body s.2)
-    stmt-untasked (For at xs word item body) s = (item-untasked item s.3, body-untasked body s.4)
-    stmt-untasked (Forall at xs word item intents body) s = (item-untasked item s.3, body-untasked body s.5)
-    stmt-untasked (Coforall at xs word item intents body) s = s.6
-    stmt-untasked (On at e body) s = s.3
+    stmt-untasked (Headed word at e body) s = (expr-untasked e s.1, body-untasked body s.2, head-untasked word s.3)
+    stmt-untasked (Loop word at xs within item intents body) s = (item-untasked item s.3, body-untasked body s.5, loop-untasked word s.6)
 
     body-untasked : (b : Body Text) → BodySpelt P ⊥ b → UntaskedBody b
     body-untasked (WordBody at t) s = stmt-untasked t s.1

@@ -6,7 +6,7 @@ use Rattle.std.specs.Result.{IfOk}
 use Rattle.std.proofs.lemmas.Bool.Decides.{Decides-eqb}
 use Rattle.dpl_syntax.specs.declared.place.Place.{Place}
 use Rattle.dpl_syntax.specs.declared.refusal.Code.TheVariants.{NameTwice}
-use Rattle.dpl_language.specs.Tree.{Placed, LocalesWord, ItemTree, One, RangeItem, VariablesTree, OneVariable, ManyVariables}
+use Rattle.dpl_language.specs.Tree.{Placed, LocalesWord, ItemTree, One, RangeItem, VariablesTree, OneVariable, ManyVariables, LoopWord}
 use Rattle.dpl_language.specs.Values.{Value, Int, AllLocales, Index}
 use Rattle.dpl_language.specs.Ranges.{loop_ranges, index_value, loop_value}
 use Rattle.dpl_language.specs.Names.{Text, State, by_name}
@@ -18,7 +18,7 @@ use Rattle.dpl_rules.specs.Types.{ValueType, Scalar, Range as RangeType, Domain 
 use Rattle.dpl_rules.specs.Types.{Tuple as TupleType, Locale as LocaleType, AllLocales as AllLocalesType, Cell as CellType, an_int}
 use Rattle.dpl_rules.specs.Verdicts.{owed}
 use Rattle.dpl_rules.specs.Sights.{LoopVariable, Declared, Scopes, find, declared_here, enter, add, origin_in}
-use Rattle.dpl_rules.specs.Loops.{LoopWord, over_domains, over_locales, runs_over, turn_rank, one_type, typed_variable, each_once, add_variables, over_type, in_loop, variables_of}
+use Rattle.dpl_rules.specs.Loops.{over_domains, over_locales, runs_over, turn_rank, one_type, typed_variable, each_once, add_variables, over_type, in_loop, variables_of}
 use Rattle.dpl_rules.proofs.Admission.{second_empty}
 use Rattle.dpl_sound.specs.Formed.{ItemFormed}
 use Rattle.dpl_sound.specs.Typed.{HasType, type_at, Fits}

@@ -17,7 +17,7 @@ use Rattle.dpl_grammar.proofs.Values.{of_token as of_any_token}
 use Rattle.dpl_spelling.specs.Nested.{Nested, Inside, OneItem, Tuple, Expression, Item, Statement, ItemBelow, ExpressionBelow, NegBelow, NotBelow, RedBelow, StartBelow, InsideBelow, StatementBelow, PlainBelow, nested, Rule, Late}
 use Rattle.dpl_spelling.specs.Expressions.{simple_base, base}
 use Rattle.dpl_spelling.specs.Declarations.{if_there, after_inside, tuple_end, inside, Bracket, bracket, holding, after_bracket, expression_end, start, Argument, nameless, after_argument, argument_end, item_name, start_name, box_argument, start_argument, block_map, cyclic_map, block_cyclic_map, map, mapped, scalar_kind, sync_type, domain_type, array_type, declared_type, typed, create_word, created, init, initial, Declared, declared, declare_end, declaration, config_declaration}
-use Rattle.dpl_spelling.specs.Statements.{element, target_end, assign_by, assign_sign, assignment_end, write_call, read_call, reset_call, cell_call, call_end, named_statement, argument, output, stmts_of, block, part, body, Condition, condition, Conditional, consequence, alternative, if_else, while_loop, on_locale, variables, reduce_operator, intent, with_intents, Loop, loop_head, for_loop, ParallelLoop, parallel_head, forall_loop, coforall_loop, simple_statement, plain_statement, statement}
+use Rattle.dpl_spelling.specs.Statements.{element, target_end, assign_by, assign_sign, assignment_end, write_call, read_call, reset_call, cell_call, call_end, named_statement, argument, output, stmts_of, block, part, body, Condition, condition, Conditional, consequence, alternative, if_else, while_loop, on_locale, variables, reduce_operator, intent, with_intents, LoopHead, loop_head, for_loop, ParallelHead, parallel_head, forall_loop, coforall_loop, simple_statement, plain_statement, statement}
 use Rattle.dpl_spelling.specs.Grammar.{Program, top, tops, program, grammar}
 use Rattle.dpl_spelling.specs.Theorem.{Spells}
 use Rattle.dpl_language.specs.Spelled.{SaysType}
@@ -319,7 +319,7 @@ module _ (P : Place → Type 0) (W : Type 0) (g : Deep nested) (inner : (n : Nes
 
   while_loop_spelt : IsLate while_loop (StmtSpelt P W)
   unfolding while_loop
-  while_loop_spelt = of_ended ConditionSpelt (BodySpelt P W) (condition_spelt _) (body_spelt _) (λ c b p q. (p.0, p.1, q))
+  while_loop_spelt = of_ended ConditionSpelt (BodySpelt P W) (condition_spelt _) (body_spelt _) (λ c b p q. (p.0, p.1, q, tt))
 
   on_locale_spelt : IsLate on_locale (StmtSpelt P W)
   unfolding on_locale
@@ -351,14 +351,14 @@ module _ (P : Place → Type 0) (W : Type 0) (g : Deep nested) (inner : (n : Nes
   unfolding with_intents
   with_intents_spelt = of_parts (of_part of_token (λ w p. of_deeper (λ k q. of_part (listed_spelt P W g intent_spelt) (λ xs r. of_last of_token (λ l s. (p, q, r, s))))))
 
-  abbrev LoopSpelt : Loop → Type 0
+  abbrev LoopSpelt : LoopHead → Type 0
   LoopSpelt l = P l.at × VariablesSpelt P W l.variables × P l.within × ItemSpelt P W l.over
 
   loop_head_spelt : (word : Keyword) → Is P W g (loop_head word) LoopSpelt
   unfolding loop_head
   loop_head_spelt word = of_parts (of_part of_token (λ k p. of_part variables_spelt (λ xs q. of_part of_token (λ l r. of_last (item_spelt P W g inner) (λ i s. (p, q, r, s))))))
 
-  abbrev TasksSpelt : Loop → Type 0
+  abbrev TasksSpelt : LoopHead → Type 0
   TasksSpelt l = LoopSpelt l × W
 
   tasks_head_spelt : Is P W g (loop_head word_of.Coforall) TasksSpelt
@@ -367,16 +367,16 @@ module _ (P : Place → Type 0) (W : Type 0) (g : Deep nested) (inner : (n : Nes
 
   for_loop_spelt : IsLate for_loop (StmtSpelt P W)
   unfolding for_loop
-  for_loop_spelt = of_ended LoopSpelt (BodySpelt P W) (loop_head_spelt _) (body_spelt _) (λ h b p q. (p.0, p.1, p.2, p.3, q))
+  for_loop_spelt = of_ended LoopSpelt (BodySpelt P W) (loop_head_spelt _) (body_spelt _) (λ h b p q. (p.0, p.1, p.2, p.3, tt, q, tt))
 
-  abbrev ParallelSpelt : ParallelLoop → Type 0
+  abbrev ParallelSpelt : ParallelHead → Type 0
   ParallelSpelt l = LoopSpelt l.loop × IfThere (WithSpelt P W) l.with
 
   parallel_head_spelt : (word : Keyword) → Is P W g (parallel_head word) ParallelSpelt
   unfolding parallel_head
   parallel_head_spelt word = of_parts (of_part (loop_head_spelt word) (λ l p. of_last (of_maybe with_intents_spelt) (λ w q. (p, q))))
 
-  abbrev CoforallSpelt : ParallelLoop → Type 0
+  abbrev CoforallSpelt : ParallelHead → Type 0
   CoforallSpelt l = TasksSpelt l.loop × IfThere (WithSpelt P W) l.with
 
   coforall_head_spelt : Is P W g (parallel_head word_of.Coforall) CoforallSpelt
@@ -385,7 +385,7 @@ module _ (P : Place → Type 0) (W : Type 0) (g : Deep nested) (inner : (n : Nes
 
   forall_loop_spelt : IsLate forall_loop (StmtSpelt P W)
   unfolding forall_loop
-  forall_loop_spelt = of_ended ParallelSpelt (BodySpelt P W) (parallel_head_spelt _) (body_spelt _) (λ h b p q. (p.0.0, p.0.1, p.0.2, p.0.3, p.1, q))
+  forall_loop_spelt = of_ended ParallelSpelt (BodySpelt P W) (parallel_head_spelt _) (body_spelt _) (λ h b p q. (p.0.0, p.0.1, p.0.2, p.0.3, p.1, q, tt))
 
   coforall_loop_spelt : IsLate coforall_loop (StmtSpelt P W)
   unfolding coforall_loop

@@ -13,7 +13,7 @@ use Rattle.dpl_syntax.specs.declared.token.Sign.TheVariants as sign_of
 use Rattle.dpl_syntax.specs.declared.token.Kind.TheVariants.{Name, Contextual, Number as NumberKind, Keyword, Sign, End}
 use Rattle.dpl_syntax.specs.declared.token.Token.{Token}
 use Rattle.dpl_language.specs.Tree.{Placed, Add, Multiply, Minus, Number, Named, Grouped, DomainLiteral, Prefixed, Chain, Postfixed, One, RangeItem, Closed, NoStride, Link, NoLinks, Post, NoPosts, Dotted, Plainly, Word, Size, DomainOf, FirstItem, NoItems, StartTree, StartExpr, StartTuple}
-use Rattle.dpl_language.specs.Tree.{MapTree, BlockMap, CyclicMap, ItemInit, Set, SetReduce, ExprArgument, Whole, Nothing, Declare, Assigned, Write, If, While, WordBody, Then, NoStmts, NoElse, ElseDo, Block}
+use Rattle.dpl_language.specs.Tree.{MapTree, BlockMap, CyclicMap, ItemInit, Set, SetReduce, ExprArgument, Whole, Nothing, Declare, Assigned, Write, If, Headed, WordBody, Then, NoStmts, NoElse, ElseDo, Block, WhileWord}
 use Rattle.dpl_grammar.specs.Reader.{Unexpected, NoRoom}
 use Rattle.dpl_spelling.specs.Nested.{Expression, Statement}
 use Rattle.dpl_spelling.specs.Grammar.{Program}
@@ -284,7 +284,7 @@ abbrev do_block : List Token
 do_block = word 1 word_of.While ∷ name 7 (codes "a") ∷ word 9 word_of.Do ∷ sign 12 sign_of.OpenCurly ∷ sign 14 sign_of.Semicolon ∷ sign 16 sign_of.CloseCurly ∷ end 17 ∷ []
 
 abbrev do_block_tree : Program
-do_block_tree = one (While (at 1) (Named (named 7 (codes "a"))) (WordBody (at 9) (Block (at 12) (Then (Nothing (at 14)) NoStmts) (at 16)))) 17
+do_block_tree = one (Headed WhileWord (at 1) (Named (named 7 (codes "a"))) (WordBody (at 9) (Block (at 12) (Then (Nothing (at 14)) NoStmts) (at 16)))) 17
 
 do_block_read : read 1 do_block ≡ Ok (do_block_tree, [])
 unfolding parser_on_rows

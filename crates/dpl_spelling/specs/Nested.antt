@@ -3,7 +3,7 @@
 use Rattle.std.specs.Prelude.{ℕ, Bool, true, false, List, [], ◌++◌}
 use Rattle.dpl_syntax.specs.declared.token.Keyword.TheVariants.{True, False, Locales, NumLocales, Here, Min, Max, Const, Var, Write as WriteWord, Writeln, If as IfWord, Else as ElseWord, While as WhileWord, For as ForWord, Forall as ForallWord, Coforall as CoforallWord, On as OnWord, By as ByWord}
 use Rattle.dpl_syntax.specs.declared.token.Sign.TheVariants as sign_of
-use Rattle.dpl_language.specs.Tree.{ExprTree, ItemTree, Listed, StartTree, StmtTree, If, While, For, Forall, Coforall, On, Body, WordBody, BlockBody, NoElse, ElseDo}
+use Rattle.dpl_language.specs.Tree.{ExprTree, ItemTree, Listed, StartTree, StmtTree, If, Headed, Loop, Body, WordBody, BlockBody, NoElse, ElseDo}
 use Rattle.dpl_grammar.specs.Classes.{Class, names, numbers, sign, keyword}
 use Rattle.dpl_grammar.specs.Rule.{Hints, Names, Rule as RuleOf, Late as LateOf}
 
@@ -27,11 +27,8 @@ abbrev mutual
   pub takes_else : Statement → Bool
   takes_else (If at e body NoElse) = true
   takes_else (If at e body (ElseDo k s)) = takes_else s
-  takes_else (While at e body) = body_takes_else body
-  takes_else (For at xs within over body) = body_takes_else body
-  takes_else (Forall at xs within over with body) = body_takes_else body
-  takes_else (Coforall at xs within over with body) = body_takes_else body
-  takes_else (On at e body) = body_takes_else body
+  takes_else (Headed word at e body) = body_takes_else body
+  takes_else (Loop word at xs within over with body) = body_takes_else body
   takes_else _ = false
 
   pub body_takes_else : Body (List ℕ) → Bool

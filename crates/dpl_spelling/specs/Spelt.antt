@@ -7,7 +7,7 @@ use Rattle.dpl_language.specs.Spelled.{HasPosts, SaysType}
 use Rattle.dpl_language.specs.Names.{Text}
 use Rattle.dpl_language.specs.Tree.{Placed, AfterComma, Listed, Infix, Add, Subtract, Multiply, Divide, Remainder, Less, LessEqual, Greater, GreaterEqual, Equal, NotEqual, And, Or, AssignTree, Dots, Closed, HalfOpen, Counted, ExprTree, Number, TruthWord, Named, LocalesWord, LocaleCount, HereWord, Grouped, DomainLiteral, Prefixed, Reduced, Chain, Postfixed, ItemTree, One, RangeItem, Stride, NoStride, By, Links, NoLinks, Link, Posts, NoPosts, Post, PostTree, Brackets, Rounds, Dotted, MethodTree, Plainly, Dim, Contains, Expand, CellRead, Items, FirstItem, MoreItems, NoItems, NextItem, Exprs, FirstExpr, MoreExprs, NoExprs, NextExpr}
 use Rattle.dpl_language.specs.Tree.{ArgumentName, StartTree, StartExpr, StartTuple, MapTree, BlockMap, CyclicMap, BlockCyclicMap, MappedTree, TypeTree, ScalarType, SyncType, DomainType, ArrayType, InitTree, ItemInit, CreateInit, TypedTree, InitialTree, DeclareTree}
-use Rattle.dpl_language.specs.Tree.{ArgumentTree, TextArgument, ExprArgument, WriteTree, IntentTree, ReduceIntent, RefIntent, WithTree, VariablesTree, OneVariable, ManyVariables, TargetTree, Whole, Element, CallTree, ReadCall, ResetCall, WriteCall, StmtTree, Nothing, Declare, Assigned, Call, Write, Block, If, While, For, Forall, Coforall, On, Body, WordBody, BlockBody, Stmts, NoStmts, Then, Else, NoElse, ElseDo}
+use Rattle.dpl_language.specs.Tree.{ArgumentTree, TextArgument, ExprArgument, WriteTree, IntentTree, ReduceIntent, RefIntent, WithTree, VariablesTree, OneVariable, ManyVariables, TargetTree, Whole, Element, CallTree, ReadCall, ResetCall, WriteCall, HeadWord, WhileWord, OnWord, LoopWord, ForWord, ForallWord, CoforallWord, StmtTree, Nothing, Declare, Assigned, Call, Write, Block, If, Headed, Loop, Body, WordBody, BlockBody, Stmts, NoStmts, Then, Else, NoElse, ElseDo}
 use Rattle.dpl_grammar.specs.Each.{Each, IfThere}
 
 -- the levels of operators, from the tightest on
@@ -188,6 +188,16 @@ module _ (P : Place → Type 0) (W : Type 0) where
   CallSpelt (ResetCall at from upto) = P at × P from × P upto
   CallSpelt (WriteCall at w from e upto) = P at × P from × ExprSpelt e × P upto
 
+  -- `on` and `coforall` are words of tasks
+  abbrev pub HeadWordSpelt : HeadWord → Type 0
+  HeadWordSpelt WhileWord = Unit {0}
+  HeadWordSpelt OnWord = W
+
+  abbrev pub LoopWordSpelt : LoopWord → Type 0
+  LoopWordSpelt ForWord = Unit {0}
+  LoopWordSpelt ForallWord = Unit {0}
+  LoopWordSpelt CoforallWord = W
+
   abbrev mutual
     pub StmtSpelt : StmtTree Text → Type 0
     StmtSpelt (Nothing at) = P at
@@ -197,13 +207,9 @@ module _ (P : Place → Type 0) (W : Type 0) where
     StmtSpelt (Write w) = WriteSpelt w
     StmtSpelt (Block from body upto) = P from × StmtsSpelt body × P upto
     StmtSpelt (If at e first second) = P at × ExprSpelt e × BodySpelt first × ElseSpelt second
-    StmtSpelt (While at e body) = P at × ExprSpelt e × BodySpelt body
-    StmtSpelt (For at xs word item body) = P at × VariablesSpelt xs × P word × ItemSpelt item × BodySpelt body
-    StmtSpelt (Forall at xs word item intents body) =
-        P at × VariablesSpelt xs × P word × ItemSpelt item × IfThere WithSpelt intents × BodySpelt body
-    StmtSpelt (Coforall at xs word item intents body) =
-        P at × VariablesSpelt xs × P word × ItemSpelt item × IfThere WithSpelt intents × BodySpelt body × W
-    StmtSpelt (On at e body) = P at × ExprSpelt e × BodySpelt body × W
+    StmtSpelt (Headed word at e body) = P at × ExprSpelt e × BodySpelt body × HeadWordSpelt word
+    StmtSpelt (Loop word at xs within item intents body) =
+        P at × VariablesSpelt xs × P within × ItemSpelt item × IfThere WithSpelt intents × BodySpelt body × LoopWordSpelt word
 
     pub BodySpelt : Body Text → Type 0
     BodySpelt (WordBody at t) = P at × StmtSpelt t

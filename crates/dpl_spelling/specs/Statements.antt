@@ -1,12 +1,12 @@
 -- The grammar of statements. Above each rule stands its line of the grammar.
 -- A body that is no block goes one level deeper, from its first token on; an `else` belongs to the nearest `if` that can take it.
-use Rattle.std.specs.Prelude.{ℕ, Bool, true, false, List, [], ◌∷◌, Option, refl}
+use Rattle.std.specs.Prelude.{ℕ, Bool, true, false, List, [], ◌∷◌, Option, None, refl}
 use Rattle.dpl_syntax.specs.declared.place.Place.{Place}
 use Rattle.dpl_syntax.specs.declared.token.Keyword.{Keyword}
 use Rattle.dpl_syntax.specs.declared.token.Keyword.TheVariants as word_of
 use Rattle.dpl_syntax.specs.declared.token.Contextual.TheVariants as contextual_of
 use Rattle.dpl_syntax.specs.declared.token.Sign.TheVariants as sign_of
-use Rattle.dpl_language.specs.Tree.{Placed, Op, Assign, AssignTree, Set, SetAdd, SetSubtract, SetMultiply, SetDivide, SetRemainder, SetReduce, ReadWord, ReadFEWord, ReadFFWord, WriteWord, WriteEFWord, WriteFFWord, WriteXFWord, ArgumentTree, TextArgument, ExprArgument, IntentTree, ReduceIntent, RefIntent, WithTree, VariablesTree, OneVariable, ManyVariables, BracketPair, Square, Round, TargetTree, Whole, Element, CallTree, ReadCall, ResetCall, WriteCall, Nothing, Assigned, Call, Write, Block, If, While, For, Forall, Coforall, On, Body, WordBody, BlockBody, Stmts, NoStmts, Then, NoElse, ElseDo}
+use Rattle.dpl_language.specs.Tree.{Placed, Op, Assign, AssignTree, Set, SetAdd, SetSubtract, SetMultiply, SetDivide, SetRemainder, SetReduce, ReadWord, ReadFEWord, ReadFFWord, WriteWord, WriteEFWord, WriteFFWord, WriteXFWord, ArgumentTree, TextArgument, ExprArgument, IntentTree, ReduceIntent, RefIntent, WithTree, VariablesTree, OneVariable, ManyVariables, BracketPair, Square, Round, TargetTree, Whole, Element, CallTree, ReadCall, ResetCall, WriteCall, Nothing, Assigned, Call, Write, Block, If, Headed, Loop, Body, WordBody, BlockBody, Stmts, NoStmts, Then, NoElse, ElseDo, WhileWord, OnWord, ForWord, ForallWord, CoforallWord}
 use Rattle.dpl_grammar.specs.Classes.{Class, texts, sign, keyword, contextual}
 use Rattle.dpl_grammar.specs.Rule.{token, below, either, many, ◌⟶◌, ◌⨾◌, ◌↓◌, ◌∎, done, maybe, means, closed, lower, choice, ended, dangling}
 use Rattle.dpl_spelling.specs.Nested.{Expression, Item, Statement, ExpressionBelow, StatementBelow, PlainBelow, takes_else, body_takes_else, Rule, Late}
@@ -137,11 +137,11 @@ if_else = dangling consequence alternative (λ c. If c.condition.at c.condition.
 
 -- "while" expr body
 unfoldable pub while_loop : Late Statement takes_else
-while_loop = ended (condition word_of.While) (body word_of.Do) (λ c b. While c.at c.value b) (λ c b. refl)
+while_loop = ended (condition word_of.While) (body word_of.Do) (λ c b. Headed WhileWord c.at c.value b) (λ c b. refl)
 
 -- "on" expr body
 unfoldable pub on_locale : Late Statement takes_else
-on_locale = ended (condition word_of.On) (body word_of.Do) (λ c b. On c.at c.value b) (λ c b. refl)
+on_locale = ended (condition word_of.On) (body word_of.Do) (λ c b. Headed OnWord c.at c.value b) (λ c b. refl)
 
 -- vars = name | "(" name "," name [ "," name ] ")"
 unfoldable pub variables : Rule (VariablesTree (List ℕ))
@@ -163,36 +163,36 @@ with_intents = token (keyword word_of.With) ⨾ sign sign_of.OpenRound ↓ liste
     ⟶ λ w k xs l. record { at = w.at; from = k.at; intents = xs; upto = l.at }
 
 -- a loop's word, its variables and what it runs over
-pub record Loop : Type 0 where
+pub record LoopHead : Type 0 where
   pub at : Place
   pub variables : VariablesTree (List ℕ)
   pub within : Place
   pub over : Item
 
 -- word vars "in" item
-unfoldable pub loop_head : Keyword → Rule Loop
+unfoldable pub loop_head : Keyword → Rule LoopHead
 loop_head word = token (keyword word) ⨾ variables ⨾ token (keyword word_of.In) ⨾ item ∎ ⟶ λ k xs l i. record { at = k.at; variables = xs; within = l.at; over = i }
 
 -- "for" vars "in" item body
 unfoldable pub for_loop : Late Statement takes_else
-for_loop = ended (loop_head word_of.For) (body word_of.Do) (λ h b. For h.at h.variables h.within h.over b) (λ h b. refl)
+for_loop = ended (loop_head word_of.For) (body word_of.Do) (λ h b. Loop ForWord h.at h.variables h.within h.over None b) (λ h b. refl)
 
 -- a loop's head and its intents, if it has any
-pub record ParallelLoop : Type 0 where
-  pub loop : Loop
+pub record ParallelHead : Type 0 where
+  pub loop : LoopHead
   pub with : Option (WithTree (List ℕ))
 
 -- word vars "in" item [ with ]
-unfoldable pub parallel_head : Keyword → Rule ParallelLoop
+unfoldable pub parallel_head : Keyword → Rule ParallelHead
 parallel_head word = loop_head word ⨾ maybe with_intents ∎ ⟶ λ h w. record { loop = h; with = w }
 
 -- "forall" vars "in" item [ with ] body
 unfoldable pub forall_loop : Late Statement takes_else
-forall_loop = ended (parallel_head word_of.Forall) (body word_of.Do) (λ h b. Forall h.loop.at h.loop.variables h.loop.within h.loop.over h.with b) (λ h b. refl)
+forall_loop = ended (parallel_head word_of.Forall) (body word_of.Do) (λ h b. Loop ForallWord h.loop.at h.loop.variables h.loop.within h.loop.over h.with b) (λ h b. refl)
 
 -- "coforall" vars "in" item [ with ] body
 unfoldable pub coforall_loop : Late Statement takes_else
-coforall_loop = ended (parallel_head word_of.Coforall) (body word_of.Do) (λ h b. Coforall h.loop.at h.loop.variables h.loop.within h.loop.over h.with b) (λ h b. refl)
+coforall_loop = ended (parallel_head word_of.Coforall) (body word_of.Do) (λ h b. Loop CoforallWord h.loop.at h.loop.variables h.loop.within h.loop.over h.with b) (λ h b. refl)
 
 -- a statement that is no block and has no body
 unfoldable pub simple_statement : Rule Statement

@@ -3,7 +3,7 @@
 use Rattle.std.proofs.Common.{◌≡◌, Option, Some, None, refl, ap, ◌∙◌}
 use Rattle.std.specs.Option.{option_or}
 use Rattle.std.specs.Prelude.{option_map}
-use Rattle.dpl_language.specs.Tree.{TargetTree, Whole, Element, StmtTree, Nothing, Declare, Assigned, Call, Write, Block, If, While, For, Forall, Coforall, On, Body, WordBody, BlockBody, Stmts, NoStmts, Then, Else, NoElse, ElseDo}
+use Rattle.dpl_language.specs.Tree.{TargetTree, Whole, Element, StmtTree, Nothing, Declare, Assigned, Call, Write, Block, If, Headed, Loop, Body, WordBody, BlockBody, Stmts, NoStmts, Then, Else, NoElse, ElseDo}
 use Rattle.dpl_agreement.specs.Renamed.{renamed_target, renamed_stmt, renamed_body, renamed_stmts, renamed_else}
 use Rattle.dpl_lowered.specs.Known.{Known}
 use Rattle.dpl_lowered.specs.LoweredStatements.{lowered_target, lowered_stmt, lowered_body, lowered_stmts, lowered_else}
@@ -31,11 +31,8 @@ module _ {M N T : Type 0} (f : M → N) (told : N → T) where
     written-renamed (Write t) = refl
     written-renamed (Block from ts upto) = among-renamed ts
     written-renamed (If at e first second) = either (body-renamed first) (else-renamed second)
-    written-renamed (While at e body) = body-renamed body
-    written-renamed (For at xs word item body) = body-renamed body
-    written-renamed (Forall at xs word item intents body) = body-renamed body
-    written-renamed (Coforall at xs word item intents body) = body-renamed body
-    written-renamed (On at e body) = body-renamed body
+    written-renamed (Headed word at e body) = body-renamed body
+    written-renamed (Loop word at xs within item intents body) = body-renamed body
 
     pub body-renamed : (t : Body M) → first_in_body told (renamed_body f t) ≡ first_in_body (λ x. told (f x)) t
     body-renamed (WordBody at t) = written-renamed t
@@ -64,11 +61,8 @@ module _ {N T : Type 0} (known : N → Known) (told : N → T) where
     written-lowered (Write t) = refl
     written-lowered (Block from ts upto) = among-lowered ts
     written-lowered (If at e first second) = either (body-lowered first) (else-lowered second)
-    written-lowered (While at e body) = body-lowered body
-    written-lowered (For at xs word item body) = body-lowered body
-    written-lowered (Forall at xs word item intents body) = body-lowered body
-    written-lowered (Coforall at xs word item intents body) = body-lowered body
-    written-lowered (On at e body) = body-lowered body
+    written-lowered (Headed word at e body) = body-lowered body
+    written-lowered (Loop word at xs within item intents body) = body-lowered body
 
     pub body-lowered : (t : Body N) → first_in_body told (lowered_body known t) ≡ first_in_body told t
     body-lowered (WordBody at t) = either_none (first_written told (lowered_stmt known t)) ∙ written-lowered t
@@ -101,11 +95,8 @@ module _ {N M T : Type 0} (told : N → M) (more : M → T) where
     written-told (Write t) = refl
     written-told (Block from ts upto) = among-told ts
     written-told (If at e first second) = either-map (first_in_body told first) (first_in_else told second) ∙ either (body-told first) (else-told second)
-    written-told (While at e body) = body-told body
-    written-told (For at xs word item body) = body-told body
-    written-told (Forall at xs word item intents body) = body-told body
-    written-told (Coforall at xs word item intents body) = body-told body
-    written-told (On at e body) = body-told body
+    written-told (Headed word at e body) = body-told body
+    written-told (Loop word at xs within item intents body) = body-told body
 
     pub body-told : (t : Body N) → option_map more (first_in_body told t) ≡ first_in_body (λ x. more (told x)) t
     body-told (WordBody at t) = written-told t

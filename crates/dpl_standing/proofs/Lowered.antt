@@ -1,9 +1,9 @@
 -- A lowered tree may stand where the tree may, whatever is known of its names: lowering adds no print and no loop.
 -- A body of one statement becomes a list of one, which stands where the statement does.
-use Rattle.dpl_language.specs.Tree.{StmtTree, Nothing, Declare, Assigned, Call, Write, Block, If, While, For, Forall, Coforall, On, Body, WordBody, BlockBody, Stmts, NoStmts, Then, Else, NoElse, ElseDo}
+use Rattle.dpl_language.specs.Tree.{StmtTree, Nothing, Declare, Assigned, Call, Write, Block, If, Headed, Loop, Body, WordBody, BlockBody, Stmts, NoStmts, Then, Else, NoElse, ElseDo}
 use Rattle.dpl_lowered.specs.Known.{Known}
 use Rattle.dpl_lowered.specs.LoweredStatements.{lowered_stmt, lowered_body, lowered_stmts, lowered_else}
-use Rattle.dpl_standing.specs.Standing.{Standing, InTurn, MayStand, BodyMayStand, AllMayStand, ElseMayStand}
+use Rattle.dpl_standing.specs.Standing.{Standing, in_body, MayStand, BodyMayStand, AllMayStand, ElseMayStand}
 
 module _ {N : Type 0} (known : N → Known) where
   mutual
@@ -15,11 +15,8 @@ module _ {N : Type 0} (known : N → Known) where
     stands-lowered w (Write t) h = h
     stands-lowered w (Block from ts upto) h = stmts_stand-lowered w ts h
     stands-lowered w (If at e first second) h = (body_stands-lowered w first h.0, else_stands-lowered w second h.1)
-    stands-lowered w (While at e body) h = body_stands-lowered w body h
-    stands-lowered w (For at xs word item body) h = body_stands-lowered w body h
-    stands-lowered w (Forall at xs word item intents body) h = (h.0, body_stands-lowered InTurn body h.1)
-    stands-lowered w (Coforall at xs word item intents body) h = (h.0, body_stands-lowered InTurn body h.1)
-    stands-lowered w (On at e body) h = body_stands-lowered w body h
+    stands-lowered w (Headed word at e body) h = body_stands-lowered w body h
+    stands-lowered w (Loop word at xs within item intents body) h = (h.0, body_stands-lowered (in_body w word) body h.1)
 
     pub body_stands-lowered : (w : Standing) (t : Body N) → BodyMayStand w t → BodyMayStand w (lowered_body known t)
     body_stands-lowered w (WordBody at t) h = (stands-lowered w t h, tt)

@@ -6,7 +6,7 @@ use Rattle.std.specs.Option.{option_or}
 use Rattle.dpl_syntax.specs.declared.place.Place.{Place}
 use Rattle.dpl_language.specs.Tree.{ExprTree, Number, TruthWord, Named, LocalesWord, LocaleCount, HereWord, Grouped, DomainLiteral, Prefixed, Reduced, Chain, Postfixed, ItemTree, One, RangeItem, Stride, NoStride, By, Links, NoLinks, Link, Posts, NoPosts, Post, PostTree, Brackets, Rounds, Dotted, MethodTree, Plainly, Dim, Contains, Expand, CellRead, Items, FirstItem, MoreItems, NoItems, NextItem, Exprs, FirstExpr, MoreExprs, NoExprs, NextExpr}
 use Rattle.dpl_language.specs.Tree.{StartTree, StartExpr, StartTuple, MapTree, BlockMap, CyclicMap, BlockCyclicMap, MappedTree, TypeTree, ScalarType, SyncType, DomainType, ArrayType, InitTree, ItemInit, CreateInit, InitialTree, DeclareTree}
-use Rattle.dpl_language.specs.Tree.{CallTree, ReadCall, ResetCall, WriteCall, Placed}
+use Rattle.dpl_language.specs.Tree.{IntentTree, ReduceIntent, RefIntent, WithTree, CallTree, ReadCall, ResetCall, WriteCall, Placed}
 use Rattle.dpl_language.specs.Names.{Text}
 use Rattle.dpl_language.specs.Phrases.{Base, BaseName, BaseLocales, OtherBase, base_of, parts}
 use Rattle.dpl_language.specs.Declarations.{type_of as written_type}
@@ -14,7 +14,7 @@ use Rattle.dpl_rules.specs.Types.{Origin, is_array, is_cell, has}
 use Rattle.dpl_rules.specs.Places.{first_of_declaration}
 use Rattle.dpl_rules.specs.Sights.{Declared, Scopes, lookup, type_declared}
 use Rattle.dpl_rules.specs.Deeds.{Deed, Reads, ReadsAt, Writes, WritesAt, Holds, Holding, ADeclaration, ACellCall, held_if, array_deeds, cell_deeds, items_index, exprs_index, name_deeds, declared_deeds, base_deeds, expr_deeds, item_deeds, stride_deeds, links_deeds, posts_deeds, post_deeds, method_deeds, items_deeds, more_items_deeds, exprs_deeds, more_exprs_deeds, all_deeds, start_deeds, map_deeds, mapped_deeds}
-use Rattle.dpl_rules.specs.Doings.{type_deeds, init_deeds, initial_deeds, declaration_deeds, is_apart, call_argument_deeds, call_deeds}
+use Rattle.dpl_rules.specs.Doings.{intents_deeds, with_deeds, type_deeds, init_deeds, initial_deeds, declaration_deeds, is_apart, call_argument_deeds, call_deeds}
 use Rattle.dpl_rules.specs.Bodies.{ForallScope, written_by, written_arrays}
 
 -- the name of the first
@@ -53,6 +53,15 @@ module _ (loop : ForallScope) where
   pub held-reads : (b : Bool) (at : Place) (h : Holding) → ReadsAlone (held_if b at h)
   held-reads true at h = refl
   held-reads false at h = refl
+
+  intents-read : (is : List (IntentTree Text)) → ReadsAlone (intents_deeds is)
+  intents-read [] = refl
+  intents-read (ReduceIntent at op word x ∷ rest) = intents-read rest
+  intents-read (RefIntent at x ∷ rest) = intents-read rest
+
+  pub with-reads : (w : Option (WithTree Text)) → ReadsAlone (with_deeds w)
+  with-reads None = refl
+  with-reads (Some w) = intents-read (parts w.intents)
 
   if-reads : (b : Bool) (ds es : List Deed) → ReadsAlone ds → ReadsAlone es → ReadsAlone (if b then ds else es)
   if-reads true ds es r s = r

@@ -1,20 +1,20 @@
 -- What breaks no rule stands where it may. In a forall's turn C9 forbids prints and loops that make turns or tasks;
 -- outside it is asked that nothing needs what doesn't run yet, so that there are no tasks.
-use Rattle.std.proofs.Common.{◌≡◌, List, [], ◌∷◌, ◌++◌, refl, sym, ap, ◌∙◌, append_assoc}
+use Rattle.std.proofs.Common.{◌≡◌, List, [], ◌∷◌, ◌++◌, Option, refl, sym, ap, ◌∙◌, append_assoc}
 use Rattle.dpl_syntax.specs.declared.refusal.Breach.{Breach}
-use Rattle.dpl_language.specs.Tree.{StmtTree, Nothing, Declare, Assigned, Call, Write, Block, If, While, For, Forall, Coforall, On, Body, WordBody, BlockBody, Stmts, NoStmts, Then, Else, NoElse, ElseDo}
+use Rattle.dpl_language.specs.Tree.{ItemTree, VariablesTree, WithTree, WhileWord, OnWord, LoopWord, ForWord, ForallWord, CoforallWord, StmtTree, Nothing, Declare, Assigned, Call, Write, Block, If, Headed, Loop, Body, WordBody, BlockBody, Stmts, NoStmts, Then, Else, NoElse, ElseDo}
 use Rattle.dpl_language.specs.Names.{Text}
-use Rattle.dpl_agreement.specs.Untasked.{UntaskedStmt, UntaskedBody, UntaskedStmts, UntaskedElse}
+use Rattle.dpl_agreement.specs.Untasked.{UntaskedLoop, UntaskedStmt, UntaskedBody, UntaskedStmts, UntaskedElse}
 use Rattle.dpl_rules.specs.Types.{Origin}
 use Rattle.dpl_rules.specs.Sights.{Scopes, Sight, enter, inside}
 use Rattle.dpl_rules.specs.Assignments.{condition_breaches}
-use Rattle.dpl_rules.specs.Loops.{ForWord, ForallWord, header_breaches, with_breaches, in_loop, behind}
+use Rattle.dpl_rules.specs.Loops.{header_breaches, with_breaches, in_loop, behind}
 use Rattle.dpl_rules.specs.Deeds.{Deed, expr_deeds, item_deeds, each}
-use Rattle.dpl_rules.specs.Doings.{stmt_deeds, body_deeds, stmts_deeds, else_deeds}
-use Rattle.dpl_rules.specs.Bodies.{ForallScope, forall_scope, written_arrays, deed_breaches, forall_breaches}
-use Rattle.dpl_rules.specs.Breaches.{in_forall, stmt_breaches, body_breaches, stmts_breaches, else_breaches}
+use Rattle.dpl_rules.specs.Doings.{with_deeds, stmt_deeds, body_deeds, stmts_deeds, else_deeds}
+use Rattle.dpl_rules.specs.Bodies.{ForallScope, forall_scope, written_arrays, deed_breaches}
+use Rattle.dpl_rules.specs.Breaches.{in_turn, turn_breaches, head_breaches, stmt_breaches, body_breaches, stmts_breaches, else_breaches}
 use Rattle.dpl_rules.proofs.Admission.{first_empty, second_empty}
-use Rattle.dpl_standing.specs.Standing.{Outside, InTurn, MayStand, BodyMayStand, AllMayStand, ElseMayStand}
+use Rattle.dpl_standing.specs.Standing.{Outside, InTurn, LoopMayStand, in_body, MayStand, BodyMayStand, AllMayStand, ElseMayStand}
 
 -- ---- in a turn: what it does breaks no rule of a forall's body
 each-append : (g : Deed → List Breach) (ds es : List Deed) → each g (ds ++ es) ≡ each g ds ++ each g es
@@ -50,13 +50,13 @@ module _ (loop : ForallScope) (written : List Origin) where
           turn_body-stands (enter ss) first (second_done tested first_deeds (first_done (tested ++ first_deeds) second_deeds m)),
           turn_else-stands (enter ss) second (second_done (tested ++ first_deeds) second_deeds m),
         )
-    turn-stands ss (While at e body) m = turn_body-stands (enter ss) body (second_done (expr_deeds ss e) (body_deeds (enter ss) body) m)
-    turn-stands ss (For at xs word item body) m =
+    turn-stands ss (Headed WhileWord at e body) m = turn_body-stands (enter ss) body (second_done (expr_deeds ss e) (body_deeds (enter ss) body) m)
+    turn-stands ss (Headed OnWord at e body) m = absurd cc
+    turn-stands ss (Loop ForWord at xs within item intents body) m =
         let inner = in_loop ss ForWord xs item in
-        turn_body-stands inner body (second_done (item_deeds ss item) (body_deeds inner body) m)
-    turn-stands ss (Forall at xs word item intents body) m = absurd cc
-    turn-stands ss (Coforall at xs word item intents body) m = absurd cc
-    turn-stands ss (On at e body) m = absurd cc
+        (tt, turn_body-stands inner body (second_done (item_deeds ss item ++ with_deeds intents) (body_deeds inner body) m))
+    turn-stands ss (Loop ForallWord at xs within item intents body) m = absurd cc
+    turn-stands ss (Loop CoforallWord at xs within item intents body) m = absurd cc
 
     pub turn_body-stands : (ss : Scopes) (t : Body Text) → each (deed_breaches loop written) (body_deeds ss t) ≡ [] → BodyMayStand InTurn t
     turn_body-stands ss (WordBody at t) m = turn-stands ss t m
@@ -74,6 +74,17 @@ module _ (loop : ForallScope) (written : List Origin) where
     turn_else-stands ss (ElseDo at t) m = turn-stands ss t m
 
 -- ---- outside of foralls: no part needs what doesn't run
+-- a loop stands where its body does, or what its body does breaks no rule of a forall's
+loop-stands : (sight : Sight) (word : LoopWord) (xs : VariablesTree Text) (item : ItemTree Text) (intents : Option (WithTree Text)) (body : Body Text) → UntaskedLoop word
+    → turn_breaches sight.scopes word xs intents (body_deeds (in_loop sight.scopes word xs item) body) ≡ [] → BodyMayStand Outside body
+    → LoopMayStand Outside word × BodyMayStand (in_body Outside word) body
+loop-stands sight ForWord xs item intents body c told inner = (tt, inner)
+loop-stands sight ForallWord xs item intents body c told inner =
+    let loop = forall_scope sight.scopes xs intents in
+    let within = in_loop sight.scopes ForallWord xs item in
+    (tt, turn_body-stands loop (written_arrays loop (body_deeds within body)) within body told)
+loop-stands sight CoforallWord xs item intents body c told inner = absurd c
+
 mutual
   pub program-stands : (sight : Sight) (t : StmtTree Text) → UntaskedStmt t → stmt_breaches sight t ≡ [] → MayStand Outside t
   program-stands sight (Nothing at) c h = tt
@@ -90,22 +101,17 @@ mutual
         program_body-stands within first c.1 (second_empty test one (first_empty (test ++ one) other h)),
         program_else-stands within second c.2 (second_empty (test ++ one) other h),
       )
-  program-stands sight (While at e body) c h =
+  program-stands sight (Headed word at e body) c h =
       let within = inside sight (enter sight.scopes) in
-      program_body-stands within body c.1 (second_empty (condition_breaches sight e) (body_breaches within body) h)
-  program-stands sight (For at xs word item body) c h =
-      let within = inside sight (in_loop sight.scopes ForWord xs item) in
-      program_body-stands within body c.1 (second_empty (header_breaches sight.scopes ForWord xs item) (body_breaches within body) h)
-  program-stands sight (Forall at xs word item intents body) c h =
-      let inner = in_loop sight.scopes ForallWord xs item in
-      let ds = body_deeds inner body in
-      let loop = forall_scope sight.scopes xs intents in
-      let heads = header_breaches sight.scopes ForallWord xs item ++ with_breaches sight.scopes intents in
-      let told = forall_breaches loop ds in
-      let others = body_breaches (in_forall sight xs item intents) body in
-      (tt, turn_body-stands loop (written_arrays loop ds) inner body (second_empty heads told (first_empty (heads ++ told) others h)))
-  program-stands sight (Coforall at xs word item intents body) c h = absurd c
-  program-stands sight (On at e body) c h = absurd c
+      program_body-stands within body c.1 (second_empty (head_breaches sight word e) (body_breaches within body) h)
+  program-stands sight (Loop word at xs within item intents body) c h =
+      let ss = sight.scopes in
+      let heads = header_breaches ss word xs item ++ with_breaches ss intents in
+      let told = turn_breaches ss word xs intents (body_deeds (in_loop ss word xs item) body) in
+      let others = body_breaches (in_turn sight word xs item intents) body in
+      loop-stands sight word xs item intents body c.2
+      (second_empty heads told (first_empty (heads ++ told) others h))
+      (program_body-stands (in_turn sight word xs item intents) body c.1 (second_empty (heads ++ told) others h))
 
   pub program_body-stands : (sight : Sight) (t : Body Text) → UntaskedBody t → body_breaches sight t ≡ [] → BodyMayStand Outside t
   program_body-stands sight (WordBody at t) c h = program-stands sight t c h

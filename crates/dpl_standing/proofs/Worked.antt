@@ -3,7 +3,7 @@
 use Rattle.std.proofs.Common.{ℕ, pos, true, None}
 use Rattle.dpl_syntax.specs.declared.place.Place.{Place}
 use Rattle.dpl_language.specs.Tree.{Placed, Closed, Set, ExprTree, Number, TruthWord, ItemTree, One, RangeItem, NoStride, VariablesTree, OneVariable, Whole}
-use Rattle.dpl_language.specs.Tree.{StmtTree, Assigned, Write, Block, If, While, For, Forall, Coforall, On, Body, WordBody, BlockBody, NoStmts, Then, NoElse, ElseDo}
+use Rattle.dpl_language.specs.Tree.{WhileWord, OnWord, ForWord, ForallWord, CoforallWord, StmtTree, Assigned, Write, Block, If, Headed, Loop, Body, WordBody, BlockBody, NoStmts, Then, NoElse, ElseDo}
 use Rattle.dpl_standing.specs.Standing.{Outside, InTurn, MayStand, AllMayStand}
 
 -- HOW ROWS ARE WRITTEN
@@ -44,16 +44,16 @@ abbrev range : ItemTree ℕ
 range = RangeItem one at Closed one NoStride
 
 abbrev while_so : StmtTree ℕ → StmtTree ℕ
-while_so t = While at (TruthWord at true) (doing t)
+while_so t = Headed WhileWord at (TruthWord at true) (doing t)
 
 abbrev for_each : StmtTree ℕ → StmtTree ℕ
-for_each t = For at variables at range (doing t)
+for_each t = Loop ForWord at variables at range None (doing t)
 
 abbrev for_all : StmtTree ℕ → StmtTree ℕ
-for_all t = Forall at variables at range None (doing t)
+for_all t = Loop ForallWord at variables at range None (doing t)
 
 abbrev task_each : StmtTree ℕ → StmtTree ℕ
-task_each t = Coforall at variables at range None (doing t)
+task_each t = Loop CoforallWord at variables at range None (doing t)
 
 -- OUTSIDE
 print_outside : MayStand Outside print
@@ -63,13 +63,13 @@ print_in_a_block : MayStand Outside (block print)
 print_in_a_block = (tt, tt)
 
 print_in_loops : MayStand Outside (while_so (for_each (conditional print)))
-print_in_loops = (tt, tt)
+print_in_loops = (tt, (tt, tt))
 
 print_behind_a_forall : AllMayStand Outside (Then (for_all assigned) (Then print NoStmts))
 print_behind_a_forall = ((tt, tt), (tt, tt))
 
 forall_in_a_for : MayStand Outside (for_each (for_all assigned))
-forall_in_a_for = (tt, tt)
+forall_in_a_for = (tt, (tt, tt))
 
 -- IN A FORALL'S BODY
 print_in_a_forall : MayStand Outside (for_all print) → ⊥
@@ -88,15 +88,15 @@ print_in_an_else_in_a_forall : MayStand Outside (for_all (otherwise print)) → 
 print_in_an_else_in_a_forall h = h.1.1
 
 print_in_a_for_in_a_forall : MayStand Outside (for_all (for_each print)) → ⊥
-print_in_a_for_in_a_forall h = h.1
+print_in_a_for_in_a_forall h = h.1.1
 
 -- the second of two statements counts too
-print_behind_another_in_a_forall : MayStand Outside (Forall at variables at range None (BlockBody at (Then assigned (Then print NoStmts)) at)) → ⊥
+print_behind_another_in_a_forall : MayStand Outside (Loop ForallWord at variables at range None (BlockBody at (Then assigned (Then print NoStmts)) at)) → ⊥
 print_behind_another_in_a_forall h = h.1.1.0
 
 -- a task is as a turn, and `on` goes on where it stands
 print_in_a_task : MayStand Outside (task_each print) → ⊥
 print_in_a_task h = h.1
 
-print_on_a_locale_in_a_turn : MayStand InTurn (On at one (doing print)) → ⊥
+print_on_a_locale_in_a_turn : MayStand InTurn (Headed OnWord at one (doing print)) → ⊥
 print_on_a_locale_in_a_turn h = h

@@ -1,6 +1,6 @@
 -- Where statements stand: outside of all foralls, or in a turn of one, which prints nothing and makes no turns of its own.
 -- It is said of trees whatever stands for their names; a tree that breaks no rule is one.
-use Rattle.dpl_language.specs.Tree.{StmtTree, Nothing, Declare, Assigned, Call, Write, Block, If, While, For, Forall, Coforall, On, Body, WordBody, BlockBody, Stmts, NoStmts, Then, Else, NoElse, ElseDo}
+use Rattle.dpl_language.specs.Tree.{LoopWord, ForWord, StmtTree, Nothing, Declare, Assigned, Call, Write, Block, If, Headed, Loop, Body, WordBody, BlockBody, Stmts, NoStmts, Then, Else, NoElse, ElseDo}
 
 pub data Standing : Type 0 where
   Outside : Standing
@@ -12,6 +12,14 @@ IsOutside Outside = Unit {0}
 IsOutside InTurn = ⊥
 
 -- A print and a forall stand outside, and what stands in a forall's body stands in a turn. A task is as a turn here.
+abbrev pub LoopMayStand : Standing → LoopWord → Type 0
+LoopMayStand w ForWord = Unit {0}
+LoopMayStand w _ = IsOutside w
+
+abbrev pub in_body : Standing → LoopWord → Standing
+in_body w ForWord = w
+in_body w _ = InTurn
+
 module _ {N : Type 0} where
   abbrev mutual
     pub MayStand : Standing → StmtTree N → Type 0
@@ -22,11 +30,8 @@ module _ {N : Type 0} where
     MayStand w (Write t) = IsOutside w
     MayStand w (Block from ts upto) = AllMayStand w ts
     MayStand w (If at e first second) = BodyMayStand w first × ElseMayStand w second
-    MayStand w (While at e body) = BodyMayStand w body
-    MayStand w (For at xs word item body) = BodyMayStand w body
-    MayStand w (Forall at xs word item intents body) = IsOutside w × BodyMayStand InTurn body
-    MayStand w (Coforall at xs word item intents body) = IsOutside w × BodyMayStand InTurn body
-    MayStand w (On at e body) = BodyMayStand w body
+    MayStand w (Headed word at e body) = BodyMayStand w body
+    MayStand w (Loop word at xs within item intents body) = LoopMayStand w word × BodyMayStand (in_body w word) body
 
     pub BodyMayStand : Standing → Body N → Type 0
     BodyMayStand w (WordBody at t) = MayStand w t

@@ -2,7 +2,7 @@
 -- It is said of trees whatever stands for their names, and told by what is asked of these.
 use Rattle.std.specs.Prelude.{Option, Some, None}
 use Rattle.std.specs.Option.{option_or}
-use Rattle.dpl_language.specs.Tree.{TargetTree, Whole, Element, StmtTree, Nothing, Declare, Assigned, Call, Write, Block, If, While, For, Forall, Coforall, On, Body, WordBody, BlockBody, Stmts, NoStmts, Then, Else, NoElse, ElseDo}
+use Rattle.dpl_language.specs.Tree.{TargetTree, Whole, Element, StmtTree, Nothing, Declare, Assigned, Call, Write, Block, If, Headed, Loop, Body, WordBody, BlockBody, Stmts, NoStmts, Then, Else, NoElse, ElseDo}
 
 module _ {N M : Type 0} (told : N → M) where
   abbrev pub target_written : TargetTree N → Option M
@@ -18,11 +18,8 @@ module _ {N M : Type 0} (told : N → M) where
     first_written (Write t) = None
     first_written (Block from ts upto) = first_among ts
     first_written (If at e first second) = option_or (first_in_body first) (first_in_else second)
-    first_written (While at e body) = first_in_body body
-    first_written (For at xs word item body) = first_in_body body
-    first_written (Forall at xs word item intents body) = first_in_body body
-    first_written (Coforall at xs word item intents body) = first_in_body body
-    first_written (On at e body) = first_in_body body
+    first_written (Headed word at e body) = first_in_body body
+    first_written (Loop word at xs within item intents body) = first_in_body body
 
     pub first_in_body : Body N → Option M
     first_in_body (WordBody at t) = first_written t

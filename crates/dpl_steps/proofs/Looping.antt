@@ -12,7 +12,7 @@ use Rattle.dpl_sets.specs.Indices.{indices}
 use Rattle.dpl_array.specs.Elements.{Row, along, behind}
 use Rattle.dpl_array.proofs.InRows.{later-member}
 use mathlib.Core.Path.{fun_ext}
-use Rattle.dpl_language.specs.Tree.{AfterComma, Op, ExprTree, ItemTree, VariablesTree, OneVariable, ManyVariables, IntentTree, While, For, Forall, Stmts}
+use Rattle.dpl_language.specs.Tree.{AfterComma, Op, ExprTree, ItemTree, VariablesTree, OneVariable, ManyVariables, IntentTree, Stmts, Headed, Loop, WhileWord, ForWord, ForallWord}
 use Rattle.dpl_language.specs.Values.{Value, truth, Range, Domain, Index, Fault, fault, Budget}
 use Rattle.dpl_language.specs.Ranges.{indices_in, size_in, loop_ranges}
 use Rattle.dpl_language.specs.Outcome.{Deeds, Outcome, Done, Stop, Waits, Run, with_ok, with_value, then_do, in_order, repeated}
@@ -175,15 +175,15 @@ module _ (limits : Limits) (xs : VariablesTree Variable) (body : Stmts Variable)
   for-value at s done (Err f) = refl
 
   exec-for : (at : Place) (item : ItemTree Variable) (s : Memory) (done : Deeds)
-      → exec limits in_memory (For at xs nowhere item (listed body)) s done ≡ with_value (looped_over limits at item s) for_by s done
+      → exec limits in_memory (Loop ForWord at xs nowhere item None (listed body)) s done ≡ with_value (looped_over limits at item s) for_by s done
   exec-for at item s done = for-value at s done (item_of limits in_memory item None s)
 
   pub for-fault : (at : Place) (item : ItemTree Variable) (s : Memory) (done : Deeds) (f : Fault) → looped_over limits at item s ≡ Err f
-      → exec limits in_memory (For at xs nowhere item (listed body)) s done ≡ Stop f done
+      → exec limits in_memory (Loop ForWord at xs nowhere item None (listed body)) s done ≡ Stop f done
   for-fault at item s done f e = exec-for at item s done ∙ ap (λ r. with_value r for_by s done) e
 
   pub for-order : (at : Place) (item : ItemTree Variable) (s : Memory) (done : Deeds) (v : Value) → looped_over limits at item s ≡ Ok v
-      → exec limits in_memory (For at xs nowhere item (listed body)) s done ≡ in_order (bound_turn v) (indices_in (loop_ranges limits.locales v)) s done
+      → exec limits in_memory (Loop ForWord at xs nowhere item None (listed body)) s done ≡ in_order (bound_turn v) (indices_in (loop_ranges limits.locales v)) s done
   for-order at item s done v e =
       exec-for at item s done ∙ ap (λ r. with_value r for_by s done) e ∙ in_order-bound v (indices_in (loop_ranges limits.locales v)) s done
 
@@ -207,17 +207,17 @@ module _ (limits : Limits) (xs : VariablesTree Variable) (body : Stmts Variable)
     forall-value at s done (Err f) = refl
 
     exec-forall : (at : Place) (item : ItemTree Variable) (s : Memory) (done : Deeds)
-        → exec limits in_memory (Forall at xs nowhere item (with_intents is) (listed body)) s done ≡ with_value (looped_over limits at item s) (forall_by is) s done
+        → exec limits in_memory (Loop ForallWord at xs nowhere item (with_intents is) (listed body)) s done ≡ with_value (looped_over limits at item s) (forall_by is) s done
     exec-forall at item s done =
         ap (λ intents. with_value (item_of limits in_memory item None s) (tested_forall at intents) s done) (intents_of-with is)
         ∙ forall-value at s done (item_of limits in_memory item None s)
 
     pub forall-fault : (at : Place) (item : ItemTree Variable) (s : Memory) (done : Deeds) (f : Fault) → looped_over limits at item s ≡ Err f
-        → exec limits in_memory (Forall at xs nowhere item (with_intents is) (listed body)) s done ≡ Stop f done
+        → exec limits in_memory (Loop ForallWord at xs nowhere item (with_intents is) (listed body)) s done ≡ Stop f done
     forall-fault at item s done f e = exec-forall at item s done ∙ ap (λ r. with_value r (forall_by is) s done) e
 
     pub forall-order : (at : Place) (item : ItemTree Variable) (s : Memory) (done : Deeds) (v : Value) → looped_over limits at item s ≡ Ok v
-        → exec limits in_memory (Forall at xs nowhere item (with_intents is) (listed body)) s done
+        → exec limits in_memory (Loop ForallWord at xs nowhere item (with_intents is) (listed body)) s done
         ≡ then_do (in_order (named_turn (bound_turn v)) (indices_in (loop_ranges limits.locales v)) (in_memory.intend is s) done) (λ s done. Done (in_memory.intend [] s) done)
     forall-order at item s done v e =
         exec-forall at item s done ∙ ap (λ r. with_value r (forall_by is) s done) e
@@ -231,7 +231,7 @@ module _ (limits : Limits) (slot : ℕ) (body : Stmts Variable) where
   in_order-members r s done = in_order-turns (bound_turn limits (variable_in slot) body (Range r)) (turn_in_memory limits slot body) (members_of r.value) s done (λ i s done. refl)
 
   pub for-turns : (at : Place) (item : ItemTree Variable) (s : Memory) (done : Deeds) (r : TextRange) → looped_over limits at item s ≡ Ok (Range r)
-      → exec limits in_memory (For at (variable_in slot) nowhere item (listed body)) s done ≡ in_turn (turn_in_memory limits slot body) (members_of r.value) s done
+      → exec limits in_memory (Loop ForWord at (variable_in slot) nowhere item None (listed body)) s done ≡ in_turn (turn_in_memory limits slot body) (members_of r.value) s done
   for-turns at item s done r e = for-order limits (variable_in slot) body at item s done (Range r) e ∙ in_order-members r s done
 
 -- OVER A DOMAIN, by its indices; a forall over a range is one over the domain of this range alone
@@ -248,7 +248,7 @@ module _ (limits : Limits) (names : Names) (body : Stmts Variable) where
   bound_turn-index v same = fun_ext (λ t. fun_ext (λ s. fun_ext (λ done. ap (λ s. exec_all limits in_memory body s done) (same t s))))
 
   pub for-domain : (at : Place) (item : ItemTree Variable) (s : Memory) (done : Deeds) (rs : List TextRange) → looped_over limits at item s ≡ Ok (Domain rs)
-      → exec limits in_memory (For at (names_view names) nowhere item (listed body)) s done ≡ in_order (index_turn limits names body) (indices_in rs) s done
+      → exec limits in_memory (Loop ForWord at (names_view names) nowhere item None (listed body)) s done ≡ in_order (index_turn limits names body) (indices_in rs) s done
   for-domain at item s done rs e =
       for-order limits (names_view names) body at item s done (Domain rs) e
       ∙ ap (λ turn. in_order turn (indices_in rs) s done) (bound_turn-index (Domain rs) (bound-domain (names_view names) rs))
@@ -259,17 +259,17 @@ module _ (limits : Limits) (names : Names) (body : Stmts Variable) where
     named_turns rs = then_do (in_order (named_turn (index_turn limits names body)) (indices_in rs) (in_memory.intend is s) done) (λ s done. Done (in_memory.intend [] s) done)
 
     forall-over : (v : Value) → ((t : Index) (s : Memory) → bound_to in_memory (names_view names) v t s ≡ bound_at names t s) → looped_over limits at item s ≡ Ok v
-        → exec limits in_memory (Forall at (names_view names) nowhere item (with_intents is) (listed body)) s done ≡ named_turns (loop_ranges limits.locales v)
+        → exec limits in_memory (Loop ForallWord at (names_view names) nowhere item (with_intents is) (listed body)) s done ≡ named_turns (loop_ranges limits.locales v)
     forall-over v same e =
         forall-order limits (names_view names) body is at item s done v e
         ∙ ap (λ turn. then_do (in_order (named_turn turn) (indices_in (loop_ranges limits.locales v)) (in_memory.intend is s) done) (λ s done. Done (in_memory.intend [] s) done)) (bound_turn-index v same)
 
     pub forall-domain : (rs : List TextRange) → looped_over limits at item s ≡ Ok (Domain rs)
-        → exec limits in_memory (Forall at (names_view names) nowhere item (with_intents is) (listed body)) s done ≡ named_turns rs
+        → exec limits in_memory (Loop ForallWord at (names_view names) nowhere item (with_intents is) (listed body)) s done ≡ named_turns rs
     forall-domain rs e = forall-over (Domain rs) (bound-domain (names_view names) rs) e
 
     pub forall-range : (r : TextRange) → looped_over limits at item s ≡ Ok (Range r)
-        → exec limits in_memory (Forall at (names_view names) nowhere item (with_intents is) (listed body)) s done ≡ named_turns (r ∷ [])
+        → exec limits in_memory (Loop ForallWord at (names_view names) nowhere item (with_intents is) (listed body)) s done ≡ named_turns (r ∷ [])
     forall-range r e = forall-over (Range r) (bound-range (names_view names) r) e
 
 -- WHILES, by the turns that are left
@@ -300,6 +300,6 @@ module _ (limits : Limits) where
   holds-fault e s f value = ap (λ r. with_ok r (λ v. Ok (truth v))) value
 
   pub exec-while : (at : Place) (e : ExprTree Variable) (body : Stmts Variable) (s : Memory) (done : Deeds)
-      → exec limits in_memory (While at e (listed body)) s done ≡ repeated limits.budget at (holds limits in_memory e) (exec_all limits in_memory body) s done
+      → exec limits in_memory (Headed WhileWord at e (listed body)) s done ≡ repeated limits.budget at (holds limits in_memory e) (exec_all limits in_memory body) s done
   exec-while at e body s done =
       ap (λ run. repeated limits.budget at (holds limits in_memory e) run s done) (fun_ext (λ s. fun_ext (λ done. scoped-same (exec_all limits in_memory body) s done)))

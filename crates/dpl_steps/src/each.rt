@@ -1,9 +1,9 @@
 // Loops over domains: the variables of a turn hold its index, as one int, as a tuple, or coordinate by coordinate.
 // Their turns run the same statements as those of loops over ranges, several at once as long as that goes (rows.rt).
 
-ghost use Rattle.std.specs.Prelude.{◌≡◌, drop};
+ghost use Rattle.std.specs.Prelude.{◌≡◌, None, drop};
 ghost use Rattle.dpl_sets.specs.Indices.{indices};
-ghost use Rattle.dpl_language.specs.Tree.{One, For as ForTree};
+ghost use Rattle.dpl_language.specs.Tree.{ForWord, Loop, One};
 ghost use Rattle.dpl_language.specs.Values.{Domain as DomainValue};
 ghost use Rattle.dpl_language.specs.Ranges.{indices_in};
 ghost use Rattle.dpl_language.specs.Outcome.{Deeds, in_order};
@@ -126,7 +126,7 @@ pub(crate) fn for_each<'t, C: Context>(
 ) -> Result<(), RunStop>
     requires ready { C.is_ready context.now }
     ensures ends { (done : Deeds) → RunsTo (MayRefuseSome (C.may_refuse context.now)) result frame.new.memory (C.having out.new done)
-        (exec frame.old.limits in_memory (ForTree at.now (names_view names.now) nowhere (One (domain_view over.now))
+        (exec frame.old.limits in_memory (Loop ForWord at.now (names_view names.now) nowhere (One (domain_view over.now)) None
         (listed (steps_in C.standing body.now))) frame.old.memory (C.having out.old done)) }
     ensures limits { frame.new.limits ≡ frame.old.limits }
 {

@@ -1,13 +1,13 @@
 // Statements one after another, branches and loops.
 // A loop's size is tested once against the budget; then its turns are made one by one, or several at once (rows.rt).
 
-ghost use Rattle.std.specs.Prelude.{◌≡◌, ◌<◌, ℤ, Some, drop, length, slice_get};
+ghost use Rattle.std.specs.Prelude.{◌≡◌, ◌<◌, ℤ, None, Some, drop, length, slice_get};
 ghost use Rattle.dpl_sets.specs.Ranges.{members_of};
 ghost use Rattle.dpl_language.specs.Outcome.{Deeds, repeated};
 ghost use Rattle.dpl_language.specs.Statements.{exec, exec_all, exec_else, holds};
 ghost use Rattle.dpl_memory.specs.Memory.{in_memory};
 ghost use Rattle.dpl_nodes.specs.Typed.{truth_view, range_item};
-ghost use Rattle.dpl_language.specs.Tree.{For as ForTree};
+ghost use Rattle.dpl_language.specs.Tree.{ForWord, Loop};
 ghost use Rattle.dpl_lowered.specs.Shapes.{nowhere};
 ghost use Rattle.dpl_nodes.specs.Steps.{listed, variable_in};
 ghost use Rattle.dpl_frame.specs.Faults.{as_range};
@@ -230,7 +230,7 @@ fn for_loop<'t, C: Context>(
 ) -> Result<(), RunStop>
     requires ready { C.is_ready context.now }
     ensures ends { (done : Deeds) → RunsTo (MayRefuseSome (C.may_refuse context.now)) result frame.new.memory (C.having out.new done)
-        (exec frame.old.limits in_memory (ForTree at.now (variable_in slot) nowhere (range_item over.now)
+        (exec frame.old.limits in_memory (Loop ForWord at.now (variable_in slot) nowhere (range_item over.now) None
         (listed (steps_in C.standing body.now))) frame.old.memory (C.having out.old done)) }
     ensures limits { frame.new.limits ≡ frame.old.limits }
 {

@@ -1,6 +1,6 @@
 -- The plain statement and the plain program that those in memory stand for.
 -- What is written as a text stands for the bytes that its escapes mean.
-use Rattle.std.specs.Prelude.{ℕ, List, [], ◌∷◌, map}
+use Rattle.std.specs.Prelude.{ℕ, List, [], ◌∷◌, map, None}
 use Rattle.dpl_syntax.specs.Text.{text_value}
 use Rattle.dpl_tree.specs.View.{Spelled, name_view, expr_view, exprs_view, item_view}
 use Rattle.dpl_tree.specs.Declarations.{optional, declare_view}
@@ -28,7 +28,7 @@ use Rattle.dpl_tree.specs.declared.statement.ModuleName.{ModuleName}
 use Rattle.dpl_tree.specs.declared.statement.NextModule.{NextModule}
 use Rattle.dpl_tree.specs.declared.statement.Use.{Use}
 use Rattle.dpl_tree.specs.declared.statement.Program.{Program}
-use Rattle.dpl_language.specs.Tree.{Placed, AfterComma, Listed, ArgumentTree, TextArgument, ExprArgument, WriteTree, IntentTree, ReduceIntent, RefIntent, WithTree, VariablesTree, OneVariable, ManyVariables, TargetTree, Whole, Element, AssignTree, CallTree, ReadCall, ResetCall, WriteCall, StmtTree, Nothing, Declare, Assigned, Call, Write, Block, If, While, For, Forall, Coforall, On, Body, WordBody, BlockBody, Stmts, NoStmts, Then, Else, NoElse, ElseDo, ModuleTree, UseTree, ProgramTree}
+use Rattle.dpl_language.specs.Tree.{Placed, AfterComma, Listed, ArgumentTree, TextArgument, ExprArgument, WriteTree, IntentTree, ReduceIntent, RefIntent, WithTree, VariablesTree, OneVariable, ManyVariables, TargetTree, Whole, Element, AssignTree, CallTree, ReadCall, ResetCall, WriteCall, WhileWord, OnWord, ForWord, ForallWord, CoforallWord, StmtTree, Nothing, Declare, Assigned, Call, Write, Block, If, Headed, Loop, Body, WordBody, BlockBody, Stmts, NoStmts, Then, Else, NoElse, ElseDo, ModuleTree, UseTree, ProgramTree}
 
 abbrev pub argument_view : Argument → Spelled ArgumentTree
 argument_view (Text at bytes) = TextArgument at (text_value bytes.now)
@@ -81,11 +81,11 @@ abbrev mutual
   stmt_view (WriteStmt w) = Write (written_view w.now)
   stmt_view (Block' p from q shape row upto) = Block from (stmts_view row) upto
   stmt_view (If' p at condition body otherwise) = If at (expr_view condition.now) (body_view body) (else_view otherwise)
-  stmt_view (While' p at condition body) = While at (expr_view condition.now) (body_view body)
-  stmt_view (For' p at xs within over body) = For at (variables_view xs) within (item_view over) (body_view body)
-  stmt_view (Forall' p at xs within over with body) = Forall at (variables_view xs) within (item_view over) (optional with_view with) (body_view body)
-  stmt_view (Coforall' p at xs within over with body) = Coforall at (variables_view xs) within (item_view over) (optional with_view with) (body_view body)
-  stmt_view (On' p at locale body) = On at (expr_view locale.now) (body_view body)
+  stmt_view (While' p at condition body) = Headed WhileWord at (expr_view condition.now) (body_view body)
+  stmt_view (For' p at xs within over body) = Loop ForWord at (variables_view xs) within (item_view over) None (body_view body)
+  stmt_view (Forall' p at xs within over with body) = Loop ForallWord at (variables_view xs) within (item_view over) (optional with_view with) (body_view body)
+  stmt_view (Coforall' p at xs within over with body) = Loop CoforallWord at (variables_view xs) within (item_view over) (optional with_view with) (body_view body)
+  stmt_view (On' p at locale body) = Headed OnWord at (expr_view locale.now) (body_view body)
 
   pub body_view : BodyNode → Spelled Body
   body_view (Word' at p s) = WordBody at (stmt_view s)

@@ -3,7 +3,7 @@ use Rattle.std.proofs.Common.{◌≡◌, ℕ, pos, Bool, true, false, List, [], 
 use Rattle.std.specs.Prelude.{◌&&◌}
 use Rattle.dpl_syntax.specs.declared.place.Place.{Place}
 use Rattle.dpl_sets.specs.TextRanges.{TextRange}
-use Rattle.dpl_language.specs.Tree.{Placed, AssignTree, ItemTree, TypeTree, ScalarType, SyncType, DomainType, ArrayType, InitTree, ItemInit, CreateInit, InitialTree, DeclareTree, VariablesTree, OneVariable, ManyVariables, TargetTree, Whole, Element, StmtTree, Nothing, Declare, Assigned, Call, Write, Block, If, While, For, Forall, Coforall, On, Body, WordBody, BlockBody, Stmts, NoStmts, Then, Else, NoElse, ElseDo}
+use Rattle.dpl_language.specs.Tree.{Placed, AssignTree, ItemTree, TypeTree, ScalarType, SyncType, DomainType, ArrayType, InitTree, ItemInit, CreateInit, InitialTree, DeclareTree, VariablesTree, OneVariable, ManyVariables, TargetTree, Whole, Element, WhileWord, OnWord, ForWord, ForallWord, CoforallWord, StmtTree, Nothing, Declare, Assigned, Call, Write, Block, If, Headed, Loop, Body, WordBody, BlockBody, Stmts, NoStmts, Then, Else, NoElse, ElseDo}
 use Rattle.dpl_language.specs.Values.{Value, Int, Index, index_of, ranges_in, array_domain, is_domain, Fault, fault, Budget, ArrayTooLarge, InTurn, in_the_turn, default}
 use Rattle.dpl_language.specs.Arithmetic.{assign_divides, tested_divisor}
 use Rattle.dpl_language.specs.Ranges.{indices_in, size_in, loop_ranges, loop_value, too_large}
@@ -161,13 +161,13 @@ module _ (limits : Limits) where
     quiet-exec (If at e a b) silent =
         quiet-value (holds limits in_memory e) (λ c. choose c (scoped in_memory (exec_body limits in_memory a)) (exec_else limits in_memory b))
         (λ c. quiet-choose c (scoped in_memory (exec_body limits in_memory a)) (exec_else limits in_memory b) (quiet-scoped (exec_body limits in_memory a) (quiet-exec_body a silent.0)) (quiet-exec_else b silent.1))
-    quiet-exec (While at e body) silent = quiet-repeated limits.budget at (holds limits in_memory e) (scoped in_memory (exec_body limits in_memory body)) (quiet-scoped (exec_body limits in_memory body) (quiet-exec_body body silent))
-    quiet-exec (For at xs word item body) silent =
+    quiet-exec (Headed WhileWord at e body) silent = quiet-repeated limits.budget at (holds limits in_memory e) (scoped in_memory (exec_body limits in_memory body)) (quiet-scoped (exec_body limits in_memory body) (quiet-exec_body body silent.0))
+    quiet-exec (Headed OnWord at e body) silent = absurd silent.1
+    quiet-exec (Loop ForWord at xs within item intents body) silent =
         quiet-value (λ s. item_of limits in_memory item None s) (λ v. within_budget limits at (loop_ranges limits.locales v) (turn_of in_memory xs v (exec_body limits in_memory body)))
         (λ v. quiet-within at (loop_ranges limits.locales v) (turn_of in_memory xs v (exec_body limits in_memory body)) (quiet-turn xs v (exec_body limits in_memory body) silent.0 (quiet-exec_body body silent.1)))
-    quiet-exec (Forall at xs word item intents body) silent = absurd silent
-    quiet-exec (Coforall at xs word item intents body) silent = absurd silent
-    quiet-exec (On at e body) silent = absurd silent
+    quiet-exec (Loop ForallWord at xs within item intents body) silent = absurd silent.2
+    quiet-exec (Loop CoforallWord at xs within item intents body) silent = absurd silent.2
 
     quiet-exec_body : (b : Body Variable) → IsSilentBody b → IsQuiet (exec_body limits in_memory b)
     quiet-exec_body (WordBody at t) silent = quiet-exec t silent

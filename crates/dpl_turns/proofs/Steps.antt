@@ -2,7 +2,7 @@
 use Rattle.std.proofs.Common.{List, [], ◌∷◌, ◌≡◌, ℕ, true, false, Some, None, refl, sym, subst}
 use Rattle.std.specs.List.{AllByRecursion}
 use Rattle.dpl_syntax.specs.declared.place.Place.{Place}
-use Rattle.dpl_language.specs.Tree.{Assign, Kind, IntKind, BoolKind, ExprTree, ItemTree, One, StmtTree, Block, If, While, For, Stmts, Then, Else, ElseDo}
+use Rattle.dpl_language.specs.Tree.{Assign, Kind, IntKind, BoolKind, ExprTree, ItemTree, One, WhileWord, ForWord, StmtTree, Block, If, Headed, Loop, Stmts, Then, Else, ElseDo}
 use Rattle.dpl_language.specs.Values.{Index}
 use Rattle.dpl_language.specs.Phrases.{cell_read, item_read}
 use Rattle.dpl_lowered.specs.Shapes.{nowhere}
@@ -103,8 +103,8 @@ module _ (h : Changes) (own : OwnNames) (t : Index) where
   pub if-stands : (e : ExprTree Variable) (ts : Stmts Variable) (o : Else Variable) → fits_expr (turn_scoping h own t) None e tt → AllStand ts → ElseStands o → StandsInTurn (If nowhere e (listed ts) o)
   if-stands e ts o fit all otherwise = ((fit, all.0, otherwise.0), (all.1, otherwise.1))
 
-  pub while-stands : (at : Place) (e : ExprTree Variable) (ts : Stmts Variable) → fits_expr (turn_scoping h own t) None e tt → AllStand ts → StandsInTurn (While at e (listed ts))
-  while-stands at e ts fit all = ((fit, all.0), all.1)
+  pub while-stands : (at : Place) (e : ExprTree Variable) (ts : Stmts Variable) → fits_expr (turn_scoping h own t) None e tt → AllStand ts → StandsInTurn (Headed WhileWord at e (listed ts))
+  while-stands at e ts fit all = ((fit, all.0, tt), (all.1, tt))
 
   -- a loop inside a turn, whose variables begin anew with the turn
   abbrev pub IntBegins : ℕ → Type 0
@@ -121,9 +121,9 @@ module _ (h : Changes) (own : OwnNames) (t : Index) where
   others-begin (slot ∷ slots) begin = let rest = others-begin slots begin.1 in ((begin.0, rest.0), ((λ i. tt), rest.1), (refl, rest.2))
 
   pub for-stands : (at : Place) (names : Names) (item : ItemTree Variable) (ts : Stmts Variable) → fits_item (turn_scoping h own t) None item tt → NamesBegin names → AllStand ts
-      → StandsInTurn (For at (names_view names) nowhere item (listed ts))
-  for-stands at (IntName slot) item ts fit begin all = ((fit, tt, begin, all.0), (refl, all.1))
-  for-stands at (TupleName slot) item ts fit begin all = ((fit, tt, (begin, refl), all.0), (refl, all.1))
+      → StandsInTurn (Loop ForWord at (names_view names) nowhere item None (listed ts))
+  for-stands at (IntName slot) item ts fit begin all = ((fit, tt, tt, begin, all.0), (refl, all.1, tt))
+  for-stands at (TupleName slot) item ts fit begin all = ((fit, tt, tt, (begin, refl), all.0), (refl, all.1, tt))
   for-stands at (Each first others) item ts fit begin all =
       let more = others-begin others.now begin.1 in
-      ((fit, ((λ i. tt), more.1), (begin.0, more.0), all.0), ((refl, more.2), all.1))
+      ((fit, ((λ i. tt), more.1), tt, (begin.0, more.0), all.0), ((refl, more.2), all.1, tt))

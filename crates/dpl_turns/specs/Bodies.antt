@@ -1,6 +1,6 @@
 -- What the body of a forall may do, so that its turns may be made apart: which names it may read and assign, and at which indices.
 use Rattle.std.specs.Prelude.{◌≡◌, ℕ, ℤ, pos, Bool, true, false, not, ◌&&◌, ◌||◌, Option, None, Some, List, [], ◌∷◌, length, get_or, map}
-use Rattle.dpl_language.specs.Tree.{Op, Sum, Product, BitAnd, BitOr, BitXor, Assign, SetAdd, SetMultiply, SetReduce, Placed, Named, ItemTree, One, Items, FirstItem, MoreItems, NoItems, NextItem, VariablesTree, OneVariable, ManyVariables, TypeTree, ScalarType, SyncType, DomainType, ArrayType, InitTree, ItemInit, CreateInit, InitialTree, DeclareTree, StmtTree, Nothing, Declare, Assigned, Call, Write, Block, If, While, For, Forall, Coforall, On, Body, WordBody, BlockBody, Stmts, NoStmts, Then, Else, NoElse, ElseDo}
+use Rattle.dpl_language.specs.Tree.{Op, Sum, Product, BitAnd, BitOr, BitXor, Assign, SetAdd, SetMultiply, SetReduce, Placed, Named, ItemTree, One, Items, FirstItem, MoreItems, NoItems, NextItem, VariablesTree, OneVariable, ManyVariables, TypeTree, ScalarType, SyncType, DomainType, ArrayType, InitTree, ItemInit, CreateInit, InitialTree, DeclareTree, LoopWord, ForWord, StmtTree, Nothing, Declare, Assigned, Call, Write, Block, If, Headed, Loop, Body, WordBody, BlockBody, Stmts, NoStmts, Then, Else, NoElse, ElseDo}
 use Rattle.dpl_language.specs.Values.{Index, Domain}
 use Rattle.dpl_language.specs.Outcome.{Run}
 use Rattle.dpl_language.specs.Environment.{Limits}
@@ -11,6 +11,7 @@ use Rattle.dpl_language.specs.Statements.{exec_all}
 use Rattle.dpl_lowered.specs.Shapes.{nowhere}
 use Rattle.dpl_words.specs.Words.{LeafKind, IntLeaf, TruthLeaf, RangeLeaf, LocaleLeaf, combines, intent_at}
 use Rattle.dpl_memory.specs.Memory.{VariableKind, PlainKind, DomainKind, TupleKind, CellKind, ArrayKind, Variable, variable, Memory, no_tuple, is_among, in_memory}
+use Rattle.dpl_agreement.specs.Untasked.{UntaskedHead}
 use Rattle.dpl_agreement.specs.Scopes.{Scoping, Form, PlainForm, ArrayForm, CellForm, fits_all}
 use Rattle.dpl_apart.specs.Rows.{AreOnce}
 use Rattle.dpl_apart.specs.Memories.{Changes}
@@ -271,6 +272,10 @@ IsSilentInitial (Some i) = IsSilentInit i.init
 abbrev pub IsSilentDeclare : DeclareTree Variable → Type 0
 IsSilentDeclare d = (d.config ≡ None) × (is_plain d.name.name.kind ≡ true) × IsScalar (type_of d.typed) × IsSilentInitial d.initial
 
+abbrev pub IsSilentLoop : LoopWord → Type 0
+IsSilentLoop ForWord = Unit {0}
+IsSilentLoop _ = ⊥
+
 abbrev mutual
   pub IsSilent : StmtTree Variable → Type 0
   IsSilent (Nothing at) = Unit {0}
@@ -280,11 +285,8 @@ abbrev mutual
   IsSilent (Write w) = ⊥
   IsSilent (Block from body upto) = AreSilent body
   IsSilent (If at e first second) = IsSilentBody first × IsSilentElse second
-  IsSilent (While at e body) = IsSilentBody body
-  IsSilent (For at xs word item body) = HasPlain xs × IsSilentBody body
-  IsSilent (Forall at xs word item intents body) = ⊥
-  IsSilent (Coforall at xs word item intents body) = ⊥
-  IsSilent (On at e body) = ⊥
+  IsSilent (Headed word at e body) = IsSilentBody body × UntaskedHead word
+  IsSilent (Loop word at xs within item intents body) = HasPlain xs × IsSilentBody body × IsSilentLoop word
 
   pub IsSilentBody : Body Variable → Type 0
   IsSilentBody (WordBody at t) = IsSilent t

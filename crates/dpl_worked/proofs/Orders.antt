@@ -7,7 +7,7 @@ use Rattle.dpl_sets.specs.Members.{members}
 use Rattle.dpl_sets.specs.Indices.{indices}
 use Rattle.dpl_syntax.specs.declared.token.Token.{Token}
 use Rattle.dpl_grammar.specs.Reader.{Read}
-use Rattle.dpl_language.specs.Tree.{Forall, Stmts, NoStmts, Then, VariablesTree, Body}
+use Rattle.dpl_language.specs.Tree.{Stmts, NoStmts, Then, VariablesTree, Body, Loop, ForallWord}
 use Rattle.dpl_language.specs.Values.{Value, Int, Index, Fault}
 use Rattle.dpl_language.specs.Ranges.{indices_in, loop_ranges}
 use Rattle.dpl_language.specs.Environment.{Limits, Content, ArrayOf}
@@ -45,7 +45,7 @@ behind (Waits at c op done) go = None
 
 abbrev first_forall : Stmts Text → State → Deeds → Option Reached
 first_forall NoStmts s done = None
-first_forall (Then (Forall at xs word item intents body) rest) s done =
+first_forall (Then (Loop ForallWord at xs word item intents body) rest) s done =
     reached xs body (item_of limits by_name item None s) (by_name.intend (intents_of intents) s) done
 first_forall (Then t rest) s done = behind (exec limits by_name t s done) (first_forall rest)
 

@@ -2,14 +2,13 @@
 use Rattle.std.proofs.Common.{rules, ◌≡◌, ◌+◌, [], drop, length, map, sym, ap, ◌∙◌, subst}
 use Rattle.std.specs.Prelude.{OnOk, IfOk}
 use Rattle.dpl_syntax.proofs.Walks.{drop-end}
-use Rattle.dpl_language.specs.Tree.{NoStmts}
+use Rattle.dpl_language.specs.Tree.{NoStmts, ForWord, ForallWord}
 use Rattle.dpl_tree.specs.View.{expr_view, item_view}
 use Rattle.dpl_tree.specs.Declarations.{optional}
 use Rattle.dpl_tree.specs.Statements.{variables_view, with_view, stmt_view, body_view, else_view, stmts_of}
 use Rattle.dpl_tree.proofs.StatementFields.{stmt_view_block, body_view_block}
 use Rattle.dpl_rules.specs.Breaches.{stmt_breaches}
 use Rattle.dpl_rules.specs.Bodies.{forall_breaches}
-use Rattle.dpl_rules.specs.Loops.{ForWord, ForallWord}
 use Rattle.dpl_deeds.specs.View.{deed_view}
 use Rattle.dpl_lowered.specs.LoweredExpressions.{Once}
 use Rattle.dpl_nodes.specs.declared.step.Step.{Block as BlockStep}

@@ -18,4 +18,4 @@ pub returns-in-One-clause-node : goal.returns-in-One-clause-node
 returns-in-One-clause-node c =
     let ss = c.args.scopes.now in
     let e = expr_view c.in-One.e.now in
-    if_ok c.over_expr.result (λ r h. subst (NodeOfItem ss r) (sym (ap item_view c.in-One.is)) (λ s n. stands-item r (λ m. leaves_of ss m e) (h s n))) c.over_expr.ensures.node
+    if_ok c.base.result (λ r h. subst (NodeOfItem ss r) (sym (ap item_view c.in-One.is)) (λ s n. stands-item r (λ m. leaves_of ss m e) (h s n))) c.base.ensures.node
