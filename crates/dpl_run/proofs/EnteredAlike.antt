@@ -182,11 +182,6 @@ module _ {M N G S1 S2 : Type 0} (limits : Limits) (name : N → M) (scoping : Sc
 
   mutual
     pub stmt-entered : (t : StmtTree N) (g : G) → fits scoping t g → EachForall scoping Q t g → Alike g (entered limits first (renamed_stmt name t)) (entered limits second t)
-    stmt-entered (Nothing at) g f q s1 s2 done r = tt
-    stmt-entered (Declare d) g f q s1 s2 done r = tt
-    stmt-entered (Assigned target sign item semicolon) g f q s1 s2 done r = tt
-    stmt-entered (Call x dot call semicolon) g f q s1 s2 done r = tt
-    stmt-entered (Write w) g f q s1 s2 done r = tt
     stmt-entered (Block from body upto) g f q s1 s2 done r = inside-entered g _ _ (stmts-entered body (scoping.enter g) f q) s1 s2 done r
     stmt-entered (If at e a b) g f q s1 s2 done r =
         with-entered IsMet (holds limits first (renamed_expr name e) s1) (holds limits second e s2) _ _ s1 s2 done (holds-same e g s1 s2 r f.0)
@@ -225,8 +220,7 @@ module _ {M N G S1 S2 : Type 0} (limits : Limits) (name : N → M) (scoping : Sc
               (subst (λ noted. Pairwise IsMet (entered_within limits rs turns1 inner1 (first.intend (renamed_intents name is) s1) (first.note at rs s1 done)) (entered_within limits rs turns2 inner2 (second.intend is s2) noted))
               (sim.notes at rs done g s1 s2 r) more),
         ))
-    stmt-entered (Loop CoforallWord at xs within item intents body) g f q s1 s2 done r = tt
-    stmt-entered (Headed OnWord at e body) g f q s1 s2 done r = tt
+    stmt-entered _ g f q s1 s2 done r = tt
 
     body-entered : (b : Body N) (g : G) → fits_body scoping b g → EachInBody scoping Q b g → Alike g (entered_body limits first (renamed_body name b)) (entered_body limits second b)
     body-entered (WordBody at t) g f q s1 s2 done r = stmt-entered t g f q s1 s2 done r

@@ -5,7 +5,7 @@ use Rattle.std.specs.Prelude.{All, option_map}
 use Rattle.std.proofs.lemmas.List.{append-nil}
 use mathlib.Core.Path.{fun_ext}
 use Rattle.dpl_sets.specs.TextRanges.{TextRange}
-use Rattle.dpl_language.specs.Tree.{Placed, ExprTree, ItemTree, One, VariablesTree, OneVariable, ManyVariables, WhileWord, OnWord, ForWord, ForallWord, CoforallWord, StmtTree, Nothing, Declare, Assigned, Call, Write, Block, If, Headed, Loop, Body, WordBody, BlockBody, Stmts, NoStmts, Then, Else, NoElse, ElseDo}
+use Rattle.dpl_language.specs.Tree.{Placed, ExprTree, ItemTree, One, VariablesTree, OneVariable, ManyVariables, WhileWord, ForWord, ForallWord, StmtTree, Block, If, Headed, Loop, Body, WordBody, BlockBody, Stmts, NoStmts, Then, Else, NoElse, ElseDo}
 use Rattle.dpl_language.specs.Values.{Value, Int, Index}
 use Rattle.dpl_language.specs.Ranges.{indices_in, loop_ranges}
 use Rattle.dpl_language.specs.Outcome.{Deeds, Outcome, Done, Stop, Waits, Run, then_do}
@@ -140,11 +140,6 @@ module _ {M N S : Type 0} (limits : Limits) (name : N → M) (env : Environment 
 
   mutual
     stmt-lowered : (t : StmtTree N) → Enters (entered limits by_names t) (entered limits env (lowered_stmt known (renamed_stmt name t)))
-    stmt-lowered (Nothing at) s u done r = tt
-    stmt-lowered (Declare d) s u done r = tt
-    stmt-lowered (Assigned target sign item semicolon) s u done r = tt
-    stmt-lowered (Call x dot call semicolon) s u done r = tt
-    stmt-lowered (Write w) s u done r = tt
     stmt-lowered (Block from body upto) s u done r = inside-same _ _ (stmts-lowered body) s u done r
     stmt-lowered (If at e a b) s u done r =
         with-entered IsLowered (holds limits by_names e s) (holds limits env (lowered_expr known Once (renamed_expr name e)) u) _ _ s u done
@@ -173,8 +168,7 @@ module _ {M N S : Type 0} (limits : Limits) (name : N → M) (env : Environment 
               (ap (λ u. env.note at rs u done) r)
               (named-same xs v body rs (body-lowered body) (env.intend js s) (env.intend ks u) (env.note at rs s done) (ap (λ is. env.intend is s) same ∙ ap (env.intend ks) r)),
         ))
-    stmt-lowered (Loop CoforallWord at xs within item intents body) s u done r = tt
-    stmt-lowered (Headed OnWord at e body) s u done r = tt
+    stmt-lowered _ s u done r = tt
 
     body-lowered : (b : Body N) → Enters (entered_body limits by_names b) (entered_body limits env (lowered_body known (renamed_body name b)))
     body-lowered (WordBody at t) s u done r =

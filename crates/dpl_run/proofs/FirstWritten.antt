@@ -362,11 +362,6 @@ none-both (f ∷ fs) gs p q = absurd cc
 module _ (f : Turning) where
   mutual
     turn-none : (t : StmtTree Text) (ss : Scopes) → MayDoIn (Some f) (stmt_deeds ss t) → foralls ss t ≡ []
-    turn-none (Nothing at) ss m = refl
-    turn-none (Declare d) ss m = refl
-    turn-none (Assigned target sign item semicolon) ss m = refl
-    turn-none (Call x dot call semicolon) ss m = refl
-    turn-none (Write t) ss m = refl
     turn-none (Block from ts upto) ss m = turn_stmts-none ts (enter ss) m
     turn-none (If at e first second) ss m =
         let tested = expr_deeds ss e in
@@ -383,6 +378,7 @@ module _ (f : Turning) where
         absurd (forall-refuted f at (item_deeds ss item ++ with_deeds intents ++ body_deeds (in_loop ss ForallWord xs item) body) m)
     turn-none (Loop CoforallWord at xs within item intents body) ss m = absurd cc
     turn-none (Headed OnWord at e body) ss m = absurd cc
+    turn-none _ ss m = refl
 
     turn_body-none : (t : Body Text) (ss : Scopes) → MayDoIn (Some f) (body_deeds ss t) → body_foralls ss t ≡ []
     turn_body-none (WordBody at t) ss m = turn-none t ss m
@@ -431,11 +427,6 @@ IsLaw P =
 module _ (P : ForallIn → Type 0) (law : IsLaw P) where
   mutual
     laws : (t : StmtTree Text) (ss : Scopes) → Stands None ss → AreWithin (length ss) ss → StmtSpelt IsNear ⊥ t → UntaskedStmt t → stmt_breaches (sight_by None ss) t ≡ [] → AllByRecursion P (foralls ss t)
-    laws (Nothing at) ss stands within s c h = tt
-    laws (Declare d) ss stands within s c h = tt
-    laws (Assigned target sign item semicolon) ss stands within s c h = tt
-    laws (Call x dot call semicolon) ss stands within s c h = tt
-    laws (Write t) ss stands within s c h = tt
     laws (Block from ts upto) ss stands within s c h = stmts-laws ts (enter ss) (enter-stands None ss stands) (within-enter ss within) s.1 c h
     laws (If at e first second) ss stands within s c h =
         let inner = enter ss in
@@ -468,6 +459,7 @@ module _ (P : ForallIn → Type 0) (law : IsLaw P) where
           subst (AllByRecursion P) (sym (turn_body-none f body inner may)) tt,
         )
     laws (Loop CoforallWord at xs in_word item intents body) ss stands within s c h = absurd c.2
+    laws _ ss stands within s c h = tt
 
     body-laws : (t : Body Text) (ss : Scopes) → Stands None ss → AreWithin (length ss) ss → BodySpelt IsNear ⊥ t → UntaskedBody t → body_breaches (sight_by None ss) t ≡ [] → AllByRecursion P (body_foralls ss t)
     body-laws (WordBody at t) ss stands within s c h = laws t ss stands within s.1 c h

@@ -4,7 +4,7 @@ use Rattle.std.specs.Prelude.{bytes_eq, if◌then◌else◌, option_map}
 use Rattle.std.specs.Option.{option_or}
 use Rattle.std.proofs.lemmas.Option.{same_Some}
 use Rattle.dpl_syntax.specs.declared.place.Place.{Place}
-use Rattle.dpl_language.specs.Tree.{Placed, AfterComma, ItemTree, VariablesTree, OneVariable, ManyVariables, WhileWord, OnWord, LoopWord, ForWord, ForallWord, CoforallWord, StmtTree, Nothing, Declare, Assigned, Call, Write, Block, If, Headed, Loop, Body, WordBody, BlockBody, Stmts, NoStmts, Then, Else, NoElse, ElseDo}
+use Rattle.dpl_language.specs.Tree.{Placed, AfterComma, ItemTree, VariablesTree, OneVariable, ManyVariables, WhileWord, LoopWord, ForWord, ForallWord, StmtTree, Declare, Block, If, Headed, Loop, Body, WordBody, BlockBody, Stmts, NoStmts, Then, Else, NoElse, ElseDo}
 use Rattle.dpl_language.specs.Names.{Text}
 use Rattle.dpl_language.specs.Phrases.{intents_of}
 use Rattle.dpl_language.specs.Declarations.{type_of}
@@ -125,11 +125,6 @@ pub record StandsAs (fs : List ForallIn) (g : Seen) (at : Place) (over : ItemTre
 module _ (start : Start) (fs : List ForallIn) where
   mutual
     stmt-stands : (t : StmtTree Text) (ss : Scopes) (g : Seen) → IsSeenAs ss g → ((f : ForallIn) → IsAmong f (foralls ss t) → IsAmong f fs) → EachForall (resolving start) (StandsAs fs) (bound_stmt ss t) g
-    stmt-stands (Nothing at) ss g seen among = tt
-    stmt-stands (Declare d) ss g seen among = tt
-    stmt-stands (Assigned target sign item semicolon) ss g seen among = tt
-    stmt-stands (Call x dot call semicolon) ss g seen among = tt
-    stmt-stands (Write w) ss g seen among = tt
     stmt-stands (Block from ts upto) ss g seen among = stmts-stand ts (enter ss) ((resolving start).enter g) seen among
     stmt-stands (If at e first second) ss g seen among = (
       body-stands first (enter ss) ((resolving start).enter g) seen (λ f a. among f (among-left f (body_foralls (enter ss) first) (else_foralls (enter ss) second) a)),
@@ -149,8 +144,7 @@ module _ (start : Start) (fs : List ForallIn) where
       body-stands body (in_loop ss ForallWord xs item) _
           (seen-loop start ForallWord xs item ss ((resolving start).intend (intents_of (option_map (renamed_with (bound_in ss)) intents)) g) seen) (λ f a. among f (inr a)),
     )
-    stmt-stands (Loop CoforallWord at xs within item intents body) ss g seen among = tt
-    stmt-stands (Headed OnWord at e body) ss g seen among = tt
+    stmt-stands _ ss g seen among = tt
 
     body-stands : (b : Body Text) (ss : Scopes) (g : Seen) → IsSeenAs ss g → ((f : ForallIn) → IsAmong f (body_foralls ss b) → IsAmong f fs) → EachInBody (resolving start) (StandsAs fs) (bound_body ss b) g
     body-stands (WordBody at t) ss g seen among = stmt-stands t ss g seen among

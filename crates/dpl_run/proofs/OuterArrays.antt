@@ -4,7 +4,7 @@ use Rattle.std.proofs.Common.{◌≡◌, ℕ, true, [], length, Option, Some, No
 use Rattle.std.specs.Prelude.{option_map, ◌++◌}
 use Rattle.std.specs.Option.{option_or}
 use Rattle.std.proofs.lemmas.Option.{none-some, same_Some}
-use Rattle.dpl_language.specs.Tree.{Kind, Whole, Element, ForWord, ForallWord, CoforallWord, StmtTree, Nothing, Declare, Assigned, Call, Write, Block, If, Headed, Loop, Body, WordBody, BlockBody, Stmts, NoStmts, Then, Else, NoElse, ElseDo}
+use Rattle.dpl_language.specs.Tree.{Kind, Whole, Element, ForWord, ForallWord, CoforallWord, StmtTree, Assigned, Block, If, Headed, Loop, Body, WordBody, BlockBody, Stmts, NoStmts, Then, Else, NoElse, ElseDo}
 use Rattle.dpl_language.specs.Names.{Text}
 use Rattle.dpl_spelling.specs.Spelt.{StmtSpelt, BodySpelt, StmtsSpelt, ElseSpelt}
 use Rattle.dpl_agreement.specs.Untasked.{UntaskedStmt, UntaskedBody, UntaskedStmts, UntaskedElse}
@@ -39,18 +39,15 @@ either-text (Some b) c x y p q = ap (λ o. option_or o y) p
 
 mutual
   stmt-text : (t : StmtTree Text) (ss : Scopes) → option_map text_of (first_written bound_itself (bound_stmt ss t)) ≡ first_written itself t
-  stmt-text (Nothing at) ss = refl
-  stmt-text (Declare d) ss = refl
   stmt-text (Assigned (Whole x) sign item semicolon) ss = refl
   stmt-text (Assigned (Element x shape from es upto) sign item semicolon) ss = refl
-  stmt-text (Call x dot call semicolon) ss = refl
-  stmt-text (Write w) ss = refl
   stmt-text (Block from ts upto) ss = stmts-text ts (enter ss)
   stmt-text (If at e first second) ss =
       either-text (first_in_body bound_itself (bound_body (enter ss) first)) (first_in_else bound_itself (bound_else ss second)) (first_in_body itself first) (first_in_else itself second)
       (body-text first (enter ss)) (else-text second ss)
   stmt-text (Headed word at e body) ss = body-text body (enter ss)
   stmt-text (Loop word at xs within item intents body) ss = body-text body (in_loop ss word xs item)
+  stmt-text _ ss = refl
 
   pub body-text : (b : Body Text) (ss : Scopes) → option_map text_of (first_in_body bound_itself (bound_body ss b)) ≡ first_in_body itself b
   body-text (WordBody at t) ss = stmt-text t ss
@@ -106,15 +103,11 @@ module _ (f : Turning) where
   mutual
     turn-outer : (t : StmtTree Text) (ss : Scopes) → Stands (Some f) ss → AreWithin (length f.outer) ss → StmtSpelt IsNear ⊥ t → UntaskedStmt t → stmt_breaches (sight_by (Some f) ss) t ≡ []
         → MayDoIn (Some f) (stmt_deeds ss t) → AreOuter f.outer (first_written bound_itself (bound_stmt ss t))
-    turn-outer (Nothing at) ss stands within s c h m = none-outer f.outer
-    turn-outer (Declare d) ss stands within s c h m = none-outer f.outer
     turn-outer (Assigned (Whole x) sign item semicolon) ss stands within s c h m = none-outer f.outer
     turn-outer (Assigned (Element x shape from es upto) sign item semicolon) ss stands within s c h m =
         let element = runnable_element ss stands.names (forall_by (Some f)) x shape from es upto sign item s.0.2 s.2 c.0 c.1
         (first_empty (assignment_breaches (sight_by (Some f) ss) (Element x shape from es upto) sign item) (promoted_breaches ss (Element x shape from es upto) item) h) in
         λ b e. subst (IsOuterArray f.outer) (same_Some (bound_in ss x.name) b e) (element-outer x.name ss element.kind stands within element.target)
-    turn-outer (Call x dot call semicolon) ss stands within s c h m = none-outer f.outer
-    turn-outer (Write t) ss stands within s c h m = none-outer f.outer
     turn-outer (Block from ts upto) ss stands within s c h m = turn_stmts-outer ts (enter ss) (enter-stands (Some f) ss stands) within s.1 c h m
     turn-outer (If at e first second) ss stands within s c h m =
         let inner = enter ss in
@@ -144,6 +137,7 @@ module _ (f : Turning) where
     turn-outer (Loop ForallWord at xs in_word item intents body) ss stands within s c h m =
         absurd (forall-refuted f at (item_deeds ss item ++ with_deeds intents ++ body_deeds (in_loop ss ForallWord xs item) body) m)
     turn-outer (Loop CoforallWord at xs in_word item intents body) ss stands within s c h m = absurd c.2
+    turn-outer _ ss stands within s c h m = none-outer f.outer
 
     turn_body-outer : (t : Body Text) (ss : Scopes) → Stands (Some f) ss → AreWithin (length f.outer) ss → BodySpelt IsNear ⊥ t → UntaskedBody t → body_breaches (sight_by (Some f) ss) t ≡ []
         → MayDoIn (Some f) (body_deeds ss t) → AreOuter f.outer (first_in_body bound_itself (bound_body ss t))

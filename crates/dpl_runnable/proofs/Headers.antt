@@ -1,16 +1,17 @@
 -- The head of a loop that runs: it is over a range or a domain, its variables have a type, and each has a name of its own.
 -- So its variables are new in the loop's scope, and of the kinds that turns give.
-use Rattle.std.proofs.Common.{◌≡◌, ◌⊎◌, inl, inr, ℕ, Bool, true, false, List, [], ◌∷◌, Option, Some, None, refl, sym, ap, ◌∙◌, subst}
-use Rattle.std.specs.Prelude.{◌==◌, not, if◌then◌else◌}
+use Rattle.std.proofs.Common.{◌≡◌, ℕ, Bool, true, false, List, [], ◌∷◌, Option, Some, None, refl, sym, ap, ◌∙◌, subst}
+use Rattle.std.specs.Prelude.{◌==◌, not, ◌&&◌, ◌||◌, if◌then◌else◌}
 use Rattle.dpl_syntax.specs.declared.refusal.Code.TheVariants.{NameTwice}
-use Rattle.dpl_language.specs.Tree.{Placed, ExprTree, Number, TruthWord, Named, LocalesWord, LocaleCount, HereWord, Grouped, DomainLiteral, Prefixed, Reduced, Chain, Postfixed, ItemTree, One, RangeItem, VariablesTree, OneVariable, ManyVariables, LoopWord, ForWord, ForallWord}
+use Rattle.dpl_language.specs.Tree.{Placed, ExprTree, Number, TruthWord, Named, LocalesWord, LocaleCount, HereWord, Grouped, DomainLiteral, Prefixed, Reduced, Chain, Postfixed, ItemTree, One, RangeItem, VariablesTree, OneVariable, ManyVariables, LoopWord, ForWord, ForallWord, CoforallWord}
 use Rattle.dpl_language.specs.Names.{Text}
 use Rattle.dpl_language.specs.Phrases.{parts}
+use Rattle.dpl_agreement.specs.Untasked.{UntaskedLoop}
 use Rattle.dpl_rules.specs.Types.{ValueType, Scalar, Range, Domain, Array, Promoted, Tuple, Locale, AllLocales, Cell, an_int}
 use Rattle.dpl_rules.specs.Verdicts.{owed}
 use Rattle.dpl_rules.specs.Sights.{LoopVariable, Scopes, declared_here, enter, add, origin_in}
 use Rattle.dpl_rules.specs.Expressions.{item_type}
-use Rattle.dpl_rules.specs.Loops.{one_type, variable_type, fits_variables, typed_variable, each_once, variables_of, over_type}
+use Rattle.dpl_rules.specs.Loops.{over_domains, over_locales, one_type, variable_type, fits_variables, typed_variable, each_once, variables_of, over_type}
 use Rattle.dpl_rules.proofs.Admission.{first_empty, second_empty}
 use Rattle.dpl_sound.proofs.Given.{owed_not-holds}
 use Rattle.dpl_sound.proofs.Loops.{SameNames, same_names-add}
@@ -70,30 +71,28 @@ range-turns : (xs : VariablesTree Text) (strided : Bool) → IsOneVariable xs �
 range-turns (OneVariable x) strided one = (an_int, refl, tt)
 range-turns (ManyVariables from xs upto) strided one = absurd one
 
-runs-typed : (word : LoopWord) → (word ≡ ForWord) ⊎ (word ≡ ForallWord) → (xs : VariablesTree Text) (u : ValueType) (k : VariableKind) → RunsOver xs u → value_kind u ≡ Some k → (t : ValueType) × (typed_variable word xs (Some u) ≡ Some t) × AreTurnKinds xs (value_kind t)
-runs-typed word which xs (Range strided) k runs e = by_word which
-  where
-    typed : (t : ValueType) × (variable_type xs (Range strided) ≡ Some t) × AreTurnKinds xs (value_kind t)
-    typed = range-turns xs strided runs
+-- what runs without tasks runs over domains
+over-domains : (word : LoopWord) → UntaskedLoop word → over_domains word ≡ true
+over-domains ForWord untasked = refl
+over-domains ForallWord untasked = refl
+over-domains CoforallWord untasked = absurd untasked
 
-    by_word : (word ≡ ForWord) ⊎ (word ≡ ForallWord) → (t : ValueType) × (typed_variable word xs (Some (Range strided)) ≡ Some t) × AreTurnKinds xs (value_kind t)
-    by_word (inl is) = (typed.0, ap (λ w. typed_variable w xs (Some (Range strided))) is ∙ typed.1, typed.2)
-    by_word (inr is) = (typed.0, ap (λ w. typed_variable w xs (Some (Range strided))) is ∙ typed.1, typed.2)
-runs-typed word which xs (Domain rank strided) k runs e = by_word which
-  where
-    typed : (t : ValueType) × (variable_type xs (Domain rank strided) ≡ Some t) × AreTurnKinds xs (value_kind t)
-    typed = domain-turns xs rank strided (kind_if-some (is_rank rank) DomainKind k e).0 runs
-
-    by_word : (word ≡ ForWord) ⊎ (word ≡ ForallWord) → (t : ValueType) × (typed_variable word xs (Some (Domain rank strided)) ≡ Some t) × AreTurnKinds xs (value_kind t)
-    by_word (inl is) = (typed.0, ap (λ w. typed_variable w xs (Some (Domain rank strided))) is ∙ typed.1, typed.2)
-    by_word (inr is) = (typed.0, ap (λ w. typed_variable w xs (Some (Domain rank strided))) is ∙ typed.1, typed.2)
-runs-typed word which xs (Scalar l) k runs e = absurd runs
-runs-typed word which xs (Array l o) k runs e = absurd runs
-runs-typed word which xs (Promoted l o) k runs e = absurd runs
-runs-typed word which xs (Tuple rank) k runs e = absurd runs
-runs-typed word which xs Locale k runs e = absurd runs
-runs-typed word which xs AllLocales k runs e = absurd runs
-runs-typed word which xs (Cell l) k runs e = absurd runs
+runs-typed : (word : LoopWord) → UntaskedLoop word → (xs : VariablesTree Text) (u : ValueType) (k : VariableKind) → RunsOver xs u → value_kind u ≡ Some k
+    → (t : ValueType) × (typed_variable word xs (Some u) ≡ Some t) × AreTurnKinds xs (value_kind t)
+runs-typed word untasked xs (Range strided) k runs e = range-turns xs strided runs
+runs-typed word untasked xs (Domain rank strided) k runs e =
+    let typed = domain-turns xs rank strided (kind_if-some (is_rank rank) DomainKind k e).0 runs in (
+      typed.0,
+      ap (λ b. if (b && true) || (over_locales word && false) then variable_type xs (Domain rank strided) else None) (over-domains word untasked) ∙ typed.1,
+      typed.2,
+    )
+runs-typed word untasked xs (Scalar l) k runs e = absurd runs
+runs-typed word untasked xs (Array l o) k runs e = absurd runs
+runs-typed word untasked xs (Promoted l o) k runs e = absurd runs
+runs-typed word untasked xs (Tuple rank) k runs e = absurd runs
+runs-typed word untasked xs Locale k runs e = absurd runs
+runs-typed word untasked xs AllLocales k runs e = absurd runs
+runs-typed word untasked xs (Cell l) k runs e = absurd runs
 
 module _ (ss : Scopes) (xs : VariablesTree Text) (item : ItemTree Text) (h : IsRunnableHeader ss xs item) where
   pub of_kind : value_kind h.type ≡ Some h.kind
@@ -102,9 +101,9 @@ module _ (ss : Scopes) (xs : VariablesTree Text) (item : ItemTree Text) (h : IsR
   pub over-known : over_type ss item ≡ Some h.type
   over-known = over-simple _ ss item h.over.found ∙ h.is
 
-  pub header-typed : (word : LoopWord) → (word ≡ ForWord) ⊎ (word ≡ ForallWord) → (t : ValueType) × (loop_type ss word xs item ≡ Some t) × AreTurnKinds xs (value_kind t)
-  header-typed word which =
-      let typed = runs-typed word which xs h.type h.kind h.runs of_kind in
+  pub header-typed : (word : LoopWord) → UntaskedLoop word → (t : ValueType) × (loop_type ss word xs item ≡ Some t) × AreTurnKinds xs (value_kind t)
+  header-typed word untasked =
+      let typed = runs-typed word untasked xs h.type h.kind h.runs of_kind in
       (typed.0, ap (typed_variable word xs) over-known ∙ typed.1, typed.2)
 
   pub header-fresh : (t : Option ValueType) → AreFresh t (variables_of xs) (enter ss)

@@ -1,17 +1,17 @@
 -- Programs that run are plain: what is in sight is known where each statement stands, its parts are simple, their names are found and
 -- their places are near. So the walk over such a program makes its steps.
-use Rattle.std.proofs.Common.{◌≡◌, inl, inr, ℕ, true, List, [], ◌∷◌, Option, Some, None, is_some, refl, sym, ap, ◌∙◌, subst}
+use Rattle.std.proofs.Common.{◌≡◌, ℕ, true, List, [], ◌∷◌, Option, Some, None, is_some, refl, sym, ap, ◌∙◌, subst}
 use Rattle.std.proofs.lemmas.Option.{none-some}
-use Rattle.dpl_language.specs.Tree.{Op, Assign, Set, SetAdd, SetSubtract, SetMultiply, SetDivide, SetRemainder, SetReduce, Kind, IntKind, BoolKind, ExprTree, ItemTree, VariablesTree, TypeTree, ScalarType, SyncType, DomainType, ArrayType, MappedTree, InitTree, ItemInit, CreateInit, InitialTree, DeclareTree}
-use Rattle.dpl_language.specs.Tree.{ArgumentTree, TextArgument, ExprArgument, Whole, Element, WhileWord, OnWord, ForWord, ForallWord, CoforallWord, StmtTree, Nothing, Declare, Assigned, Call, Write, Block, If, Headed, Loop, Body, WordBody, BlockBody, Stmts, NoStmts, Then, Else, NoElse, ElseDo}
+use Rattle.dpl_syntax.specs.declared.place.Place.{Place}
+use Rattle.dpl_language.specs.Tree.{Op, WithTree, Assign, Set, SetAdd, SetSubtract, SetMultiply, SetDivide, SetRemainder, SetReduce, Kind, IntKind, BoolKind, ExprTree, ItemTree, VariablesTree, TypeTree, ScalarType, SyncType, DomainType, ArrayType, MappedTree, InitTree, ItemInit, CreateInit, InitialTree, DeclareTree}
+use Rattle.dpl_language.specs.Tree.{ArgumentTree, TextArgument, ExprArgument, Whole, Element, WhileWord, OnWord, LoopWord, ForWord, ForallWord, CoforallWord, StmtTree, Nothing, Declare, Assigned, Call, Write, Block, If, Headed, Loop, Body, WordBody, BlockBody, Stmts, NoStmts, Then, Else, NoElse, ElseDo}
 use Rattle.dpl_language.specs.Names.{Text}
-use Rattle.dpl_language.specs.Phrases.{intents_of}
 use Rattle.dpl_language.specs.Writing.{arguments_of}
 use Rattle.dpl_language.specs.Declarations.{type_of as written_type}
 use Rattle.dpl_language.specs.Roots.{type_map}
 use Rattle.dpl_language.specs.Spelled.{SaysType}
+use Rattle.dpl_agreement.specs.Untasked.{UntaskedLoop}
 use Rattle.dpl_agreement.specs.Scopes.{init_map, initial_map}
-use Rattle.dpl_agreement.specs.Renamed.{renamed_intents}
 use Rattle.dpl_rules.specs.Types.{ValueType, Scalar, has, is_any_scalar}
 use Rattle.dpl_rules.specs.Sights.{Scopes, lookup, type_declared, enter}
 use Rattle.dpl_rules.specs.Loops.{in_loop, behind}
@@ -20,14 +20,15 @@ use Rattle.dpl_scopes.proofs.Slots.{slot_in-lookup}
 use Rattle.dpl_memory.specs.Memory.{VariableKind, DomainKind, TupleKind, ArrayKind}
 use Rattle.dpl_memory.specs.Resolved.{Bound, Start}
 use Rattle.dpl_typed.specs.Leaves.{value_kind, kind_by, kind_in, type_in, IsFound}
-use Rattle.dpl_bound.specs.Sights.{bound_in, AreKnownScopes}
+use Rattle.dpl_nodes.specs.Spots.{IsNear}
+use Rattle.dpl_bound.specs.Sights.{AreKnownScopes}
 use Rattle.dpl_assignments.specs.Plain.{IsReducible}
 use Rattle.dpl_declarations.specs.Plain.{IsSimpleMapped, IsPlainType, IsPlainInit, IsPlainInitial, IsOpen, IsPlain as IsPlainDeclare}
 use Rattle.dpl_heads.specs.Plain.{HasSeveral, IsPlainExpr, IsPlainHead}
 use Rattle.dpl_prints.specs.Plain.{IsPlainArgument, ArePlainArguments}
 use Rattle.dpl_checker.specs.Plain.{IsPlainStmt, IsPlainBody, ArePlainStmts, IsPlainElse}
 use Rattle.dpl_runnable.specs.Kinds.{IsScalarKind}
-use Rattle.dpl_runnable.specs.Runnable.{IsExprOf, IsRunnableType, IsFoundType, IsInitOf, IsInitialOf, IsFoundMap, IsRunnableDeclare, IsReducedBy, IsRunnableArgument, AreRunnableArguments, IsRunnableHeader, IsRunnableStmt, IsRunnableBody, AreRunnableStmts, IsRunnableElse, IsRunnableTop, AreRunnableTops}
+use Rattle.dpl_runnable.specs.Runnable.{IsExprOf, IsRunnableType, IsFoundType, IsInitOf, IsInitialOf, IsFoundMap, IsRunnableDeclare, IsReducedBy, IsRunnableArgument, AreRunnableArguments, IsRunnableHeader, reduced_in, IsRunnableStmt, IsRunnableBody, AreRunnableStmts, IsRunnableElse, IsRunnableTop, AreRunnableTops}
 use Rattle.dpl_runnable.specs.Written.{IsWrittenStmt, IsWrittenBody, AreWrittenStmts, IsWrittenElse, IsWrittenTop, AreWrittenTops}
 use Rattle.dpl_runnable.specs.InSight.{AreOpen}
 use Rattle.dpl_runnable.proofs.Kept.{kind-cases, kind-same, kind_if-some}
@@ -131,6 +132,13 @@ arguments-plain ss (a ∷ rest) r = (argument-plain ss a r.0, arguments-plain ss
 no_start : Start
 no_start = record { slots = 0; cells = 0; texts = []; words = []; histories = None }
 
+-- a loop that runs without tasks
+loop-plain : (ss : Scopes) (word : LoopWord) (at : Place) (xs : VariablesTree Text) (within : Place) (item : ItemTree Text) (intents : Option (WithTree Text)) (body : Body Text) → UntaskedLoop word
+    → IsNear at → IsPlainHead ss xs item → IsPlainBody (in_loop ss word xs item) body → IsPlainStmt ss (Loop word at xs within item intents body)
+loop-plain ss ForWord at xs within item intents body untasked near head inner = (near, head, inner)
+loop-plain ss ForallWord at xs within item intents body untasked near head inner = (near, head, inner)
+loop-plain ss CoforallWord at xs within item intents body untasked near head inner = absurd untasked
+
 mutual
   stmt-plain : (t : StmtTree Text) (ss : Scopes) (is : List (Bound × Op)) → AreOpen ss → IsRunnableStmt ss is t → IsWrittenStmt t → IsPlainStmt ss t
   stmt-plain (Nothing at) ss is h r w = tt
@@ -154,17 +162,9 @@ mutual
   )
   stmt-plain (Headed WhileWord at e body) ss is h r w = (r.2, expr-plain ss e _ (open-known ss h) r.0, body-plain body (enter ss) is (tt, open-known ss h) r.1 w)
   stmt-plain (Headed OnWord at e body) ss is h r w = absurd r.3
-  stmt-plain (Loop ForWord at xs within item intents body) ss is h r w = (
-    r.2,
-    head-plain ss xs item (open-known ss h) r.0 w.0,
-    body-plain body (in_loop ss ForWord xs item) is (loop-open no_start ss h ForWord (inl refl) xs item r.0 is) r.1 w.1,
-  )
-  stmt-plain (Loop ForallWord at xs within item intents body) ss is h r w = (
-    r.2,
-    head-plain ss xs item (open-known ss h) r.0 w.0,
-    body-plain body (in_loop ss ForallWord xs item) (renamed_intents (bound_in ss) (intents_of intents)) (loop-open no_start ss h ForallWord (inr refl) xs item r.0 is) r.1 w.1,
-  )
-  stmt-plain (Loop CoforallWord at xs within item intents body) ss is h r w = absurd r.3
+  stmt-plain (Loop word at xs within item intents body) ss is h r w =
+      loop-plain ss word at xs within item intents body r.3 r.2 (head-plain ss xs item (open-known ss h) r.0 w.0)
+      (body-plain body (in_loop ss word xs item) (reduced_in ss is word intents) (loop-open no_start ss h word r.3 xs item r.0 is) r.1 w.1)
 
   body-plain : (b : Body Text) (ss : Scopes) (is : List (Bound × Op)) → AreOpen ss → IsRunnableBody ss is b → IsWrittenBody b → IsPlainBody ss b
   body-plain (WordBody at t) ss is h r w = stmt-plain t ss is h r w

@@ -1,14 +1,14 @@
 -- The names of a program that runs resolve: with its names resolved by the scopes as they stand where each name does, it fits a memory with as
 -- many slots as it needs, where the command line gives what it owes the names at the end. So all that is in sight there is known.
-use Rattle.std.proofs.Common.{◌≡◌, ◌⊎◌, inl, inr, ℕ, ◌+◌, ◌<◌, ◌≤◌, List, [], Option, Some, None, refl, sym, ap, ◌∙◌, subst, arith}
+use Rattle.std.proofs.Common.{◌≡◌, ℕ, ◌+◌, ◌<◌, ◌≤◌, List, [], Option, Some, None, refl, sym, ap, ◌∙◌, subst, arith}
 use Rattle.std.specs.Prelude.{option_map}
-use Rattle.dpl_language.specs.Tree.{Op, ItemTree, VariablesTree, Whole, Element, WhileWord, OnWord, LoopWord, ForWord, ForallWord, CoforallWord, StmtTree, Nothing, Declare, Assigned, Call, Write, Block, If, Headed, Loop, Body, WordBody, BlockBody, Stmts, NoStmts, Then, Else, NoElse, ElseDo, ProgramTree}
+use Rattle.dpl_language.specs.Tree.{Op, ItemTree, WithTree, VariablesTree, Whole, Element, WhileWord, OnWord, LoopWord, ForWord, ForallWord, CoforallWord, StmtTree, Nothing, Declare, Assigned, Call, Write, Block, If, Headed, Loop, Body, WordBody, BlockBody, Stmts, NoStmts, Then, Else, NoElse, ElseDo, ProgramTree}
 use Rattle.dpl_language.specs.Names.{Text}
-use Rattle.dpl_language.specs.Phrases.{intents_of}
 use Rattle.dpl_language.specs.Writing.{arguments_of}
-use Rattle.dpl_agreement.specs.Renamed.{renamed_item, renamed_with, renamed_intents}
-use Rattle.dpl_agreement.specs.Scopes.{after_all, fits as fits_stmt, fits_item, suits_turns, fits_variables, inside, fits_all, fits_body, fits_else, fits_arguments}
+use Rattle.dpl_agreement.specs.Renamed.{renamed_item, renamed_with}
+use Rattle.dpl_agreement.specs.Scopes.{after_all, fits as fits_stmt, fits_item, suits_turns, fits_variables, fits_loop, begun, inside, fits_all, fits_body, fits_else, fits_arguments}
 use Rattle.dpl_agreement.proofs.RenamedParts.{arguments_of-renamed, intents_of-renamed}
+use Rattle.dpl_agreement.specs.Untasked.{UntaskedLoop}
 use Rattle.dpl_rules.specs.Types.{ValueType}
 use Rattle.dpl_rules.specs.Sights.{Scopes, enter}
 use Rattle.dpl_rules.specs.Declarations.{declared_by}
@@ -19,7 +19,7 @@ use Rattle.dpl_scopes.specs.Slots.{next_slot_in}
 use Rattle.dpl_memory.specs.Resolved.{Bound, Start, first_seen, resolving}
 use Rattle.dpl_typed.specs.Leaves.{value_kind}
 use Rattle.dpl_bound.specs.Sights.{bound_in, sight_of, AreKnownScopes}
-use Rattle.dpl_runnable.specs.Runnable.{IsRunnableHeader, IsRunnableStmt, IsRunnableBody, AreRunnableStmts, IsRunnableElse, IsRunnableTop, AreRunnableTops}
+use Rattle.dpl_runnable.specs.Runnable.{IsRunnableHeader, IsRunnableLoop, reduced_in, IsRunnableStmt, IsRunnableBody, AreRunnableStmts, IsRunnableElse, IsRunnableTop, AreRunnableTops}
 use Rattle.dpl_bound.specs.Bounds.{bound_new, bound_variables, loop_type, bound_stmt, bound_body, bound_stmts, bound_else, bound_program, with_slot, slots_each, slots_turn, slots_stmt, slots_body, slots_stmts, slots_else, slots_of}
 use Rattle.dpl_runnable.specs.Given.{AreGiven}
 use Rattle.dpl_runnable.specs.InSight.{seen_of, AreOpen, AreOwed, IsOwedBy, AreTurnKinds}
@@ -34,11 +34,7 @@ use Rattle.dpl_runnable.proofs.Configs.{tops-one, owed-before, given-owed}
 -- ---- SLOTS are never taken back
 mutual
   stmt-grows : (t : StmtTree Text) (ss : Scopes) (n : ℕ) → n ≤ slots_stmt ss t n
-  stmt-grows (Nothing at) ss n = omega arith
   stmt-grows (Declare d) ss n = max-left n (next_slot_in ss + 1)
-  stmt-grows (Assigned target sign item semicolon) ss n = omega arith
-  stmt-grows (Call x dot call semicolon) ss n = omega arith
-  stmt-grows (Write w) ss n = omega arith
   stmt-grows (Block from ts upto) ss n = stmts-grow ts (enter ss) n
   stmt-grows (If at e first second) ss n =
       let one = body-grows first (enter ss) n in
@@ -49,6 +45,7 @@ mutual
       let one = each-grows (loop_type ss word xs item) (variables_of xs) (enter ss) n in
       let other = body-grows body (in_loop ss word xs item) (slots_turn ss word xs item n) in
       omega (arith, one, other)
+  stmt-grows _ ss n = omega arith
 
   body-grows : (b : Body Text) (ss : Scopes) (n : ℕ) → n ≤ slots_body ss b n
   body-grows (WordBody at t) ss n = stmt-grows t ss n
@@ -90,15 +87,15 @@ tops-owed start (Then t rest) ss r h owed =
 abbrev turning : Option ValueType → VariablesTree Text → Scopes → Scopes
 turning t xs ss = add_variables t (variables_of xs) (enter ss)
 
-module _ (start : Start) (ss : Scopes) (h : AreOpen ss) (word : LoopWord) (which : (word ≡ ForWord) ⊎ (word ≡ ForallWord)) (xs : VariablesTree Text) (item : ItemTree Text) (r : IsRunnableHeader ss xs item) (is : List (Bound × Op)) where
+module _ (start : Start) (ss : Scopes) (h : AreOpen ss) (word : LoopWord) (untasked : UntaskedLoop word) (xs : VariablesTree Text) (item : ItemTree Text) (r : IsRunnableHeader ss xs item) (is : List (Bound × Op)) where
   abbrev type : ValueType
-  type = (header-typed ss xs item r word which).0
+  type = (header-typed ss xs item r word untasked).0
 
   typed : loop_type ss word xs item ≡ Some type
-  typed = (header-typed ss xs item r word which).1
+  typed = (header-typed ss xs item r word untasked).1
 
   kinds : AreTurnKinds xs (value_kind type)
-  kinds = (header-typed ss xs item r word which).2
+  kinds = (header-typed ss xs item r word untasked).2
 
   no_domain : IsOverNone (Some type)
   no_domain = let (k, kind, single) = turn-kind xs (value_kind type) kinds in single-over type k kind single
@@ -136,6 +133,19 @@ module _ (start : Start) where
       let more : next_slot_in ss < with_slot ss n = omega arith in
       omega (arith, more, le)
 
+  -- a loop may be run, and what is in sight in its turns
+  loop-fits : (ss : Scopes) (is : List (Bound × Op)) (word : LoopWord) (ys : VariablesTree Bound) (intents : Option (WithTree Text)) → UntaskedLoop word → IsRunnableLoop ss is word intents
+      → fits_loop (resolving start) word ys (option_map (renamed_with (bound_in ss)) intents) (seen_of ss is)
+  loop-fits ss is ForWord ys intents untasked r = tt
+  loop-fits ss is ForallWord ys intents untasked r = r.0
+  loop-fits ss is CoforallWord ys intents untasked r = absurd untasked
+
+  begun-seen : (ss : Scopes) (is : List (Bound × Op)) (word : LoopWord) (intents : Option (WithTree Text)) → UntaskedLoop word
+      → begun (resolving start) word (option_map (renamed_with (bound_in ss)) intents) (seen_of ss is) ≡ seen_of ss (reduced_in ss is word intents)
+  begun-seen ss is ForWord intents untasked = refl
+  begun-seen ss is ForallWord intents untasked = ap (seen_of ss) (intents_of-renamed (bound_in ss) intents)
+  begun-seen ss is CoforallWord intents untasked = absurd untasked
+
   mutual
     stmt-fits : (t : StmtTree Text) (ss : Scopes) (is : List (Bound × Op)) (n : ℕ) → AreOpen ss → IsRunnableStmt ss is t → slots_stmt ss t n ≤ start.slots → fits_stmt (resolving start) (bound_stmt ss t) (seen_of ss is)
     stmt-fits (Nothing at) ss is n h r le = tt
@@ -155,29 +165,20 @@ module _ (start : Start) where
         )
     stmt-fits (Headed WhileWord at e body) ss is n h r le = (expr-fits start ss (open-known ss h) is e r.0.found, body-fits body (enter ss) is n (tt, open-known ss h) r.1 le, tt)
     stmt-fits (Headed OnWord at e body) ss is n h r le = absurd r.3
-    stmt-fits (Loop ForWord at xs within item intents body) ss is n h r le =
-        let more = body-grows body (in_loop ss ForWord xs item) (slots_turn ss ForWord xs item n) in (
-          head-fits start ss h ForWord (inl refl) xs item r.0 is,
-          head-suits start ss h ForWord (inl refl) xs item r.0 is,
-          tt,
-          turns-fit start ss h ForWord (inl refl) xs item r.0 is n (omega (arith, more, le)),
-          subst (fits_body (resolving start) (bound_body (in_loop ss ForWord xs item) body)) (sym (loop-inside start ss h ForWord (inl refl) xs item r.0 is))
-              (body-fits body (in_loop ss ForWord xs item) is (slots_turn ss ForWord xs item n) (loop-open start ss h ForWord (inl refl) xs item r.0 is) r.1 le),
+    stmt-fits (Loop word at xs within item intents body) ss is n h r le =
+        let inner = in_loop ss word xs item in
+        let js = reduced_in ss is word intents in
+        let ys = bound_variables (loop_type ss word xs item) (enter ss) xs in
+        let more = body-grows body inner (slots_turn ss word xs item n) in
+        let seen = sym (begun-seen ss is word intents r.3) in (
+          head-fits start ss h word r.3 xs item r.0 is,
+          head-suits start ss h word r.3 xs item r.0 is,
+          loop-fits ss is word ys intents r.3 r.4,
+          subst (λ g. fits_variables (resolving start) ys ((resolving start).enter g)) seen (turns-fit start ss h word r.3 xs item r.0 js n (omega (arith, more, le))),
+          subst (λ g. fits_body (resolving start) (bound_body inner body) (inside (resolving start) ys g)) seen
+              (subst (fits_body (resolving start) (bound_body inner body)) (sym (loop-inside start ss h word r.3 xs item r.0 js))
+              (body-fits body inner js (slots_turn ss word xs item n) (loop-open start ss h word r.3 xs item r.0 is) r.1 le)),
         )
-    stmt-fits (Loop ForallWord at xs within item intents body) ss is n h r le =
-        let more = body-grows body (in_loop ss ForallWord xs item) (slots_turn ss ForallWord xs item n) in
-        let with = intents_of (option_map (renamed_with (bound_in ss)) intents) in
-        let same : renamed_intents (bound_in ss) (intents_of intents) ≡ with = sym (intents_of-renamed (bound_in ss) intents) in
-        let inner = in_loop ss ForallWord xs item in (
-          head-fits start ss h ForallWord (inr refl) xs item r.0 is,
-          head-suits start ss h ForallWord (inr refl) xs item r.0 is,
-          r.3.0,
-          turns-fit start ss h ForallWord (inr refl) xs item r.0 with n (omega (arith, more, le)),
-          subst (fits_body (resolving start) (bound_body inner body)) (sym (loop-inside start ss h ForallWord (inr refl) xs item r.0 with))
-              (subst (λ js. fits_body (resolving start) (bound_body inner body) (seen_of inner js)) same
-              (body-fits body inner (renamed_intents (bound_in ss) (intents_of intents)) (slots_turn ss ForallWord xs item n) (loop-open start ss h ForallWord (inr refl) xs item r.0 is) r.1 le)),
-        )
-    stmt-fits (Loop CoforallWord at xs within item intents body) ss is n h r le = absurd r.3
 
     body-fits : (b : Body Text) (ss : Scopes) (is : List (Bound × Op)) (n : ℕ) → AreOpen ss → IsRunnableBody ss is b → slots_body ss b n ≤ start.slots → fits_body (resolving start) (bound_body ss b) (seen_of ss is)
     body-fits (WordBody at t) ss is n h r le = stmt-fits t ss is n h r le

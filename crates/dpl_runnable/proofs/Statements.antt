@@ -86,6 +86,7 @@ mutual
         runnable_body body f inner (loop-stands IsNear ss f ForWord xs item stands s.3 closed headed) s.5 w.1 c.1 (second_empty (head ++ intended ++ []) others h)
             (second-done f (item_deeds ss item ++ with_deeds intents) (body_deeds inner body) m),
         s.0,
+        c.2,
         tt,
       )
   runnable_stmt (Loop ForallWord at xs within item intents body) None ss stands s w c h m =
@@ -110,6 +111,7 @@ mutual
             })
             s.5 w.1 c.1 (second_empty (head ++ intended ++ told) others h) (second_empty (head ++ intended) told front),
         s.0,
+        c.2,
         (refl, runnable_intents ss stands.names intents none),
       )
   runnable_stmt (Loop ForallWord at xs within item intents body) (Some f) ss stands s w c h m =

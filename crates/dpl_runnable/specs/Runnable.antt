@@ -3,12 +3,12 @@
 use Rattle.std.specs.Prelude.{◌≡◌, ◌≢◌, ℕ, nat_le, true, false, ◌&&◌, List, [], ◌∷◌, Option, Some, None}
 use Rattle.dpl_syntax.specs.declared.place.Place.{Place}
 use Rattle.dpl_language.specs.Tree.{Op, Assign, Set, SetAdd, SetSubtract, SetMultiply, SetDivide, SetRemainder, SetReduce, Placed, Kind, ExprTree, Named, Exprs, ItemTree, TypeTree, ScalarType, SyncType, DomainType, ArrayType, CreateTree, MappedTree, InitTree, ItemInit, CreateInit, InitialTree, DeclareTree}
-use Rattle.dpl_language.specs.Tree.{ArgumentTree, TextArgument, ExprArgument, IntentTree, ReduceIntent, RefIntent, WithTree, VariablesTree, OneVariable, ManyVariables, Whole, Element, LoopWord, ForWord, ForallWord, CoforallWord, StmtTree, Nothing, Declare, Assigned, Call, Write, Block, If, Headed, Loop, Body, WordBody, BlockBody, Stmts, NoStmts, Then, Else, NoElse, ElseDo}
+use Rattle.dpl_language.specs.Tree.{ArgumentTree, TextArgument, ExprArgument, IntentTree, ReduceIntent, RefIntent, WithTree, VariablesTree, OneVariable, ManyVariables, Whole, Element, LoopWord, ForallWord, StmtTree, Nothing, Declare, Assigned, Call, Write, Block, If, Headed, Loop, Body, WordBody, BlockBody, Stmts, NoStmts, Then, Else, NoElse, ElseDo}
 use Rattle.dpl_language.specs.Names.{Text, paired}
 use Rattle.dpl_language.specs.Phrases.{parts, intents_of}
 use Rattle.dpl_language.specs.Declarations.{type_of as written_type}
 use Rattle.dpl_language.specs.Roots.{type_map}
-use Rattle.dpl_agreement.specs.Untasked.{UntaskedHead}
+use Rattle.dpl_agreement.specs.Untasked.{UntaskedHead, UntaskedLoop}
 use Rattle.dpl_agreement.specs.Scopes.{initial_map}
 use Rattle.dpl_agreement.specs.Renamed.{renamed_intents}
 use Rattle.dpl_language.specs.Writing.{arguments_of}
@@ -226,9 +226,8 @@ HasRunnableIntents ss (Some w) = AreRunnableIntents ss (parts w.intents)
 
 -- A forall stands in none with reduce variables, and has its own in its turns.
 abbrev pub IsRunnableLoop : Scopes → List (Bound × Op) → LoopWord → Option (WithTree Text) → Type 0
-IsRunnableLoop ss is ForWord intents = Unit {0}
 IsRunnableLoop ss is ForallWord intents = (is ≡ []) × HasRunnableIntents ss intents
-IsRunnableLoop ss is CoforallWord intents = ⊥
+IsRunnableLoop ss is _ intents = Unit {0}
 
 abbrev pub reduced_in : Scopes → List (Bound × Op) → LoopWord → Option (WithTree Text) → List (Bound × Op)
 reduced_in ss is ForallWord intents = renamed_intents (bound_in ss) (intents_of intents)
@@ -248,7 +247,7 @@ abbrev mutual
   IsRunnableStmt ss is (Headed word at e body) = IsExprOf ss e (PlainKind TruthLeaf) × IsRunnableBody (enter ss) is body × IsNear at × UntaskedHead word
   IsRunnableStmt ss is (Loop word at xs within item intents body) =
       IsRunnableHeader ss xs item × IsRunnableBody (in_loop ss word xs item) (reduced_in ss is word intents) body × IsNear at
-      × IsRunnableLoop ss is word intents
+      × UntaskedLoop word × IsRunnableLoop ss is word intents
 
   -- a body, in the scope that was opened for it
   pub IsRunnableBody : Scopes → List (Bound × Op) → Body Text → Type 0
