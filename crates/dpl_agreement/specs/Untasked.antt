@@ -2,7 +2,7 @@
 -- What such a program means doesn't hang on the number of locales.
 use Rattle.std.specs.Prelude.{List, [], ◌∷◌, Option, Some, None}
 use Rattle.dpl_language.specs.Tree.{AfterComma, Listed, ExprTree, Number, TruthWord, Named, LocalesWord, LocaleCount, HereWord, Grouped, DomainLiteral, Prefixed, Reduced, Chain, Postfixed, ItemTree, One, RangeItem, Stride, NoStride, By, Links, NoLinks, Link, Posts, NoPosts, Post, PostTree, Brackets, Rounds, Dotted, MethodTree, Plainly, Dim, Contains, Expand, CellRead, Items, FirstItem, MoreItems, NoItems, NextItem, Exprs, FirstExpr, MoreExprs, NoExprs, NextExpr}
-use Rattle.dpl_language.specs.Tree.{StartTree, StartExpr, StartTuple, MapTree, BlockMap, CyclicMap, BlockCyclicMap, MappedTree, TypeTree, ScalarType, SyncType, DomainType, ArrayType, InitTree, ItemInit, CreateInit, TypedTree, InitialTree, DeclareTree, ArgumentTree, TextArgument, ExprArgument, WriteTree, TargetTree, Whole, Element, CallTree, ReadCall, ResetCall, WriteCall, HeadWord, WhileWord, OnWord, LoopWord, ForWord, ForallWord, CoforallWord, StmtTree, Nothing, Declare, Assigned, Call, Write, Block, If, Headed, Loop, Body, WordBody, BlockBody, Stmts, NoStmts, Then, Else, NoElse, ElseDo}
+use Rattle.dpl_language.specs.Tree.{StartTree, StartExpr, StartTuple, MapTree, BlockMap, CyclicMap, BlockCyclicMap, MappedTree, TypeTree, ScalarType, SyncType, DomainType, ArrayType, InitTree, ItemInit, CreateInit, TypedTree, InitialTree, DeclareTree, ArgumentTree, TextArgument, ExprArgument, WriteTree, TargetTree, Whole, Element, CallTree, ReadCall, ResetCall, WriteCall, HeadWord, OnWord, LoopWord, CoforallWord, StmtTree, Nothing, Declare, Assigned, Call, Write, Block, If, Headed, Loop, Body, WordBody, BlockBody, Stmts, NoStmts, Then, Else, NoElse, ElseDo}
 
 -- of what may be left out, and of the parts of a list with commas
 abbrev pub UntaskedIf : {A : Type 0} → (A → Type 0) → Option A → Type 0
@@ -18,13 +18,12 @@ UntaskedList P xs = P xs.first × UntaskedOthers P xs.others
 
 -- `on` and `coforall` are words of tasks
 abbrev pub UntaskedHead : HeadWord → Type 0
-UntaskedHead WhileWord = Unit {0}
 UntaskedHead OnWord = ⊥
+UntaskedHead _ = Unit {0}
 
 abbrev pub UntaskedLoop : LoopWord → Type 0
-UntaskedLoop ForWord = Unit {0}
-UntaskedLoop ForallWord = Unit {0}
 UntaskedLoop CoforallWord = ⊥
+UntaskedLoop _ = Unit {0}
 
 module _ {N : Type 0} where
   -- EXPRESSIONS

@@ -4,7 +4,7 @@ use Rattle.std.specs.Prelude.{◌≡◌, ℕ, ◌||◌, false, Option, Some, Non
 use Rattle.std.specs.Borrow.{Bor}
 use Rattle.dpl_syntax.specs.declared.place.Place.{Place}
 use Rattle.dpl_syntax.specs.declared.refusal.Breach.{Breach}
-use Rattle.dpl_language.specs.Tree.{Placed, Assign, Kind, IntKind, BoolKind, ExprTree, Exprs, ItemTree, One, TargetTree, Whole, Element, Square, StmtTree, Assigned}
+use Rattle.dpl_language.specs.Tree.{Placed, Assign, Set, Kind, IntKind, BoolKind, ExprTree, Exprs, ItemTree, One, TargetTree, Whole, Element, Square, StmtTree, Assigned}
 use Rattle.dpl_language.specs.Arithmetic.{assign_divides}
 use Rattle.dpl_language.specs.Names.{Text}
 use Rattle.dpl_tree.specs.declared.statement.Element.{Element as ElementNode}
@@ -17,11 +17,13 @@ use Rattle.dpl_lowered.specs.Known.{may_be_array, may_be_whole}
 use Rattle.dpl_lowered.specs.Shapes.{nowhere, kept, placed}
 use Rattle.dpl_lowered.specs.LoweredExpressions.{Times, EachTurn}
 use Rattle.dpl_lowered.specs.LoweredStatements.{times_by}
-use Rattle.dpl_memory.specs.Memory.{VariableKind, Variable, variable, known_kind}
+use Rattle.dpl_memory.specs.Memory.{VariableKind, DomainKind, Variable, variable, known_kind}
 use Rattle.dpl_nodes.specs.declared.step.ArrayName.{ArrayName}
+use Rattle.dpl_nodes.specs.declared.tree.DomainExpr.{DomainExpr}
 use Rattle.dpl_nodes.specs.declared.tree.PromotedInt.{PromotedInt}
 use Rattle.dpl_nodes.specs.declared.tree.PromotedTruth.{PromotedTruth}
-use Rattle.dpl_nodes.specs.Typed.{array_named, promoted_int, promoted_truth, index_exprs}
+use Rattle.dpl_nodes.specs.Typed.{array_named, promoted_int, promoted_truth, index_exprs, domain_view}
+use Rattle.dpl_nodes.specs.Spots.{IsNear}
 use Rattle.dpl_nodes.specs.declared.step.Step.{Step}
 use Rattle.dpl_nodes.specs.Steps.{placed_leaf, array_leaf, step_view}
 use Rattle.dpl_typed.specs.declared.typed.Typed.{Typed}
@@ -45,6 +47,11 @@ given_to ss at k slot op sign f =
     Assigned (Whole (placed (may_be_whole (known_kind k)) (record { at = at; name = with_arrays ss (variable k slot) })))
     (record { at = kept (may_be_array (known_kind k) || assign_divides op) sign; op = op; last = nowhere })
     (f (times_by (may_be_array (known_kind k)))) nowhere
+
+-- a step that gives a domain to the name of a slot; the operator's place is told by no fault
+abbrev pub SetsDomain : Scopes → Place → ℕ → DomainExpr → Step → Type 0
+SetsDomain ss at slot e step =
+    (sign : Place) → IsNear at → step_view step ≡ given_to ss at DomainKind slot Set sign (λ m. One (domain_view e))
 
 -- one to a whole array, with its operator's place, and one to an element, with that place where a fault tells it
 abbrev pub whole_changed : Placed Variable → Assign → Place → ItemTree Variable → StmtTree Variable
@@ -75,5 +82,9 @@ pub record IsIndexed (ss : Scopes) (e : ElementNode) (x : Indexed) : Type 0 wher
   pub name : array_leaf x.kind x.array.now ≡ placed_leaf e.name.at (leaf_in ss e.name.text.now)
   pub index : index_exprs x.index.now ≡ exprs_leaves ss (exprs_view e.exprs)
 
+-- an assignment to it, as one of an array of a kind, and of its own
+abbrev pub changed_as : Kind → Indexed → Assign → Place → ItemTree Variable → StmtTree Variable
+changed_as k x op at item = element_changed (array_leaf k x.array.now) (index_exprs x.index.now) op at item
+
 abbrev pub changed_at : Indexed → Assign → Place → ItemTree Variable → StmtTree Variable
-changed_at x op at item = element_changed (array_leaf x.kind x.array.now) (index_exprs x.index.now) op at item
+changed_at x op at item = changed_as x.kind x op at item

@@ -3,13 +3,13 @@
 
 ghost use Rattle.std.specs.Prelude.{◌≡◌, ℕ, true, Bool, IfOk, Some, option_map};
 ghost use Rattle.dpl_language.specs.Arithmetic.{assign_divides};
-ghost use Rattle.dpl_language.specs.Tree.{BoolKind, Set, One};
+ghost use Rattle.dpl_language.specs.Tree.{BoolKind, One};
 ghost use Rattle.dpl_lowered.specs.LoweredExpressions.{Once};
 ghost use Rattle.dpl_lowered.specs.Shapes.{kept};
 ghost use Rattle.dpl_memory.specs.Memory.{VariableKind, DomainKind, int_leaf, truth_leaf};
 ghost use Rattle.dpl_nodes.specs.Spots.{IsNear};
 ghost use Rattle.dpl_nodes.specs.Steps.{step_view, assigned_to, scalar_leaf};
-ghost use Rattle.dpl_nodes.specs.Typed.{int_view, truth_view, domain_view};
+ghost use Rattle.dpl_nodes.specs.Typed.{int_view, truth_view};
 ghost use Rattle.dpl_rules.specs.Sights.{type_declared};
 ghost use Rattle.dpl_rules.specs.Types.{ValueType as TypeOf, is_scalar, is_domain_of};
 ghost use Rattle.dpl_scopes.specs.Types.{type_view};
@@ -17,7 +17,7 @@ ghost use Rattle.dpl_scopes.specs.View.{declared_view};
 ghost use Rattle.dpl_typed.specs.declared.typed.Typed.{Typed as TypedNode};
 ghost use Rattle.dpl_typed.specs.Leaves.{value_kind};
 ghost use Rattle.dpl_typed.specs.Typed.{type_of_typed, typed_item};
-ghost use Rattle.dpl_assignments.specs.Made.{given_to};
+ghost use Rattle.dpl_assignments.specs.Made.{given_to, SetsDomain};
 ghost use Rattle.dpl_assignments.specs.Takes.{scalar_by, domain_by, Takes};
 
 use crate::overs::arrays_over;
@@ -109,7 +109,7 @@ fn set_domain<'t>(
     slot: usize,
     e: &'t DomainExpr<'t>,
 ) -> Result<Step<'t>, AllocError>
-    ensures { IfOk result (λ s. (sign : Place) → IsNear at → step_view s ≡ given_to scopes.now at DomainKind slot Set sign (λ m. One (domain_view e.now))) }
+    ensures { IfOk result (SetsDomain scopes.now at slot e.now) }
 {
     let Ok(at) = spot(arena, at) else {
         return Err(AllocError);

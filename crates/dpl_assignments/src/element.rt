@@ -6,7 +6,7 @@ ghost use Rattle.dpl_language.specs.Tree.{BoolKind, IntKind, ExprTree, One, Expr
 ghost use Rattle.dpl_lowered.specs.LoweredExpressions.{Times, Once};
 ghost use Rattle.dpl_memory.specs.Memory.{Variable};
 ghost use Rattle.dpl_nodes.specs.Spots.{IsNear};
-ghost use Rattle.dpl_nodes.specs.Steps.{step_view, array_leaf};
+ghost use Rattle.dpl_nodes.specs.Steps.{step_view};
 ghost use Rattle.dpl_nodes.specs.Typed.{int_view, truth_view, index_exprs};
 ghost use Rattle.dpl_rules.specs.Deeds.{exprs_deeds};
 ghost use Rattle.dpl_rules.specs.Expressions.{exprs_breaches};
@@ -24,7 +24,7 @@ ghost use Rattle.dpl_typed.specs.Typed.{type_of_typed, types_of, part_view, type
 ghost use Rattle.dpl_typed.specs.Where.{WhereSimpleExprs};
 ghost use Rattle.dpl_brackets.specs.Parts.{are_index};
 ghost use Rattle.dpl_assignments.specs.declared.element.Indexed.{Indexed as IndexedNode};
-ghost use Rattle.dpl_assignments.specs.Made.{element_changed, changed_at, IsAt, IsElement, IsIndexed};
+ghost use Rattle.dpl_assignments.specs.Made.{changed_as, changed_at, IsAt, IsElement, IsIndexed};
 ghost use Rattle.dpl_assignments.specs.Takes.{element_by};
 ghost use Rattle.dpl_assignments.specs.Told.{element_verdict, indexed_types, TellsElement};
 
@@ -190,7 +190,7 @@ fn set_int<'t>(
     e: &'t IntExpr<'t>,
 ) -> Result<Step<'t>, AllocError>
     ensures { IfOk result (λ s. IsNear sign.at
-        → step_view s ≡ element_changed (array_leaf IntKind x.entry.array.now) (index_exprs x.entry.index.now) sign.op sign.at (One (int_view e.now))) }
+        → step_view s ≡ changed_as IntKind x.entry sign.op sign.at (One (int_view e.now))) }
 {
     let Ok(at) = spot(arena, sign.at) else {
         return Err(AllocError);
@@ -201,7 +201,7 @@ fn set_int<'t>(
 // What an element that is a truth value is assigned: arithmetic doesn't take it.
 fn set_truth<'t>(x: Indexed<'t>, sign: AssignSign, e: &'t BoolExpr<'t>) -> Step<'t>
     ensures { element_by BoolKind sign.op ≡ true
-        → step_view result ≡ element_changed (array_leaf BoolKind x.entry.array.now) (index_exprs x.entry.index.now) sign.op sign.at (One (truth_view e.now)) }
+        → step_view result ≡ changed_as BoolKind x.entry sign.op sign.at (One (truth_view e.now)) }
 {
     match sign.op {
         Assign::Set => Step::Truth(TruthTarget::Element(x.array, x.index), e),

@@ -2,6 +2,7 @@
 -- Where nothing is made, the rule isn't met.
 use Rattle.std.specs.Prelude.{◌≡◌, ℕ, ◌<◌, false, ◌&&◌, List, [], ◌∷◌, length, map, Option, Some, None}
 use Rattle.std.specs.Borrow.{Bor}
+use Rattle.dpl_syntax.specs.declared.refusal.Breach.{Breach}
 use Rattle.dpl_language.specs.Names.{Text}
 use Rattle.dpl_language.specs.Tree.{AfterComma, ExprTree, ItemTree, One, Plainly, Exprs, FirstExpr, MoreExprs, NoExprs, NextExpr, StartTree, StartExpr, StartTuple, MapTree}
 use Rattle.dpl_rules.specs.Types.{has, is_int, is_domain}
@@ -25,9 +26,10 @@ use Rattle.dpl_typed.specs.Leaves.{IsFound}
 use Rattle.dpl_typed.specs.Lowered.{leaves_of, item_leaves, exprs_leaves}
 use Rattle.dpl_typed.specs.Stands.{IsArgument, IsItem, AreArguments}
 use Rattle.dpl_typed.specs.Typed.{types_of, part_view}
+use Rattle.dpl_typed.specs.Where.{WhereSimple, WhereSimpleItem}
 use Rattle.dpl_mapped.specs.declared.low.Low.{Low as LowNode}
 use Rattle.dpl_mapped.specs.Starts.{IsSimpleStart, start_leaves}
-use Rattle.dpl_mapped.specs.Named.{map_leaves, IsKnownRank}
+use Rattle.dpl_mapped.specs.Named.{map_leaves, IsKnownRank, IsPlainMap}
 use Rattle.dpl_mapped.specs.Told.{bound_word}
 
 -- ---- boxes
@@ -39,6 +41,10 @@ IsBox found (Some d) = (i : ItemTree Variable) → IsItem found i → One (domai
 abbrev pub IsBoxAs : Scopes → ItemTree Text → Option (Bor DomainExpr) → Type 0
 IsBoxAs scopes i None = ⊥
 IsBoxAs scopes i (Some d) = One (domain_view d.now) ≡ item_leaves scopes Once i
+
+-- an item as a box, where nothing was told
+abbrev pub MakesBox : Scopes → ItemTree Text → Option Breach → Option (Bor DomainExpr) → Type 0
+MakesBox scopes i told d = told ≡ None → WhereSimpleItem scopes i (IsBoxAs scopes i d)
 
 -- ---- starts
 -- an int, if that was found
@@ -77,7 +83,15 @@ abbrev pub IsStartAs : Scopes → StartTree Text → Option StartNode → Type 0
 IsStartAs scopes s None = ⊥
 IsStartAs scopes s (Some e) = start_view e ≡ start_leaves scopes s
 
+-- an expression as a start, where nothing was told
+abbrev pub MakesStart : Scopes → ExprTree Text → Option Breach → Option StartNode → Type 0
+MakesStart scopes e told s = told ≡ None → WhereSimple scopes e (IsStartAs scopes (StartExpr e) s)
+
 -- ---- maps
 abbrev pub IsMapAs : Scopes → MapTree Text → Option MapExpr → Type 0
 IsMapAs scopes m None = ⊥
 IsMapAs scopes m (Some e) = map_view e ≡ map_leaves scopes m
+
+-- a map, where nothing was told
+abbrev pub MakesMap : Scopes → Option ℕ → MapTree Text → Option Breach → Option MapExpr → Type 0
+MakesMap scopes rank m told made = told ≡ None → IsPlainMap scopes rank m → IsMapAs scopes m made

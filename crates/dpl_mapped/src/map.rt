@@ -8,10 +8,9 @@ ghost use Rattle.dpl_rules.specs.Maps.{box_of as box_of_rank, box_breaches, map_
 ghost use Rattle.dpl_tree.specs.Declarations.{optional, map_view as map_tree, mapped_view};
 ghost use Rattle.dpl_tree.specs.View.{item_view};
 ghost use Rattle.dpl_typed.specs.Typed.{types_of};
-ghost use Rattle.dpl_typed.specs.Where.{WhereSimpleItem};
 ghost use Rattle.dpl_deeds.specs.View.{Adds};
-ghost use Rattle.dpl_mapped.specs.Made.{IsBox, IsBoxAs, IsMapAs};
-ghost use Rattle.dpl_mapped.specs.Named.{IsPlainMap, IsPlainMapped, IsMappedAs};
+ghost use Rattle.dpl_mapped.specs.Made.{IsBox, MakesBox, MakesMap};
+ghost use Rattle.dpl_mapped.specs.Named.{IsPlainMapped, IsMappedAs};
 
 use crate::rank::owed_rank;
 use crate::start::start;
@@ -76,7 +75,7 @@ fn boxed<'t>(
     first: &mut Option<Breach>,
 ) -> Result<Option<&'t DomainExpr<'t>>, AllocError>
     ensures told { IfOk result (λ r. first.new ≡ least_from first.old (box_breaches scopes.now rank word (item_view written.now))) }
-    ensures node { IfOk result (λ r. first.new ≡ None → WhereSimpleItem scopes.now (item_view written.now) (IsBoxAs scopes.now (item_view written.now) r)) }
+    ensures node { IfOk result (MakesBox scopes.now (item_view written.now) first.new) }
     ensures deeds { OnOk result (Adds (item_deeds scopes.now (item_view written.now)) deeds.old.items deeds.new.items) }
 {
     let Ok(part) = item_part(arena, scopes, written, deeds, first) else {
@@ -96,7 +95,7 @@ fn map<'t>(
     first: &mut Option<Breach>,
 ) -> Result<Option<MapExpr<'t>>, AllocError>
     ensures told { IfOk result (λ r. first.new ≡ least_from first.old (map_breaches scopes.now rank (map_tree written.now))) }
-    ensures node { IfOk result (λ r. first.new ≡ None → IsPlainMap scopes.now rank (map_tree written.now) → IsMapAs scopes.now (map_tree written.now) r) }
+    ensures node { IfOk result (MakesMap scopes.now rank (map_tree written.now) first.new) }
     ensures deeds { OnOk result (Adds (map_deeds scopes.now (map_tree written.now)) deeds.old.items deeds.new.items) }
 {
     match written {

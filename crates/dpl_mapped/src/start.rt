@@ -2,7 +2,6 @@
 // C5 stands at the word of the map.
 
 ghost use Rattle.std.specs.Prelude.{◌≡◌, ◌<◌, None, IfOk, OnOk, length, map};
-ghost use Rattle.dpl_language.specs.Tree.{StartExpr as StartExprTree};
 ghost use Rattle.dpl_rules.specs.Breaches.{least_from};
 ghost use Rattle.dpl_rules.specs.Deeds.{expr_deeds, exprs_deeds, start_deeds};
 ghost use Rattle.dpl_rules.specs.Maps.{plain_start as plain_start_of, low_start as low_start_of, low_of, start_breaches};
@@ -11,12 +10,12 @@ ghost use Rattle.dpl_rules.specs.Verdicts.{all_known as all_known_of, each_wante
 ghost use Rattle.dpl_tree.specs.Declarations.{start_view as start_tree};
 ghost use Rattle.dpl_tree.specs.View.{expr_view, exprs_view};
 ghost use Rattle.dpl_typed.specs.Typed.{part_view};
-ghost use Rattle.dpl_typed.specs.Where.{WhereSimple, WhereSimpleExprs};
+ghost use Rattle.dpl_typed.specs.Where.{WhereSimpleExprs};
 ghost use Rattle.dpl_deeds.specs.View.{Adds};
 ghost use Rattle.dpl_brackets.specs.Parts.{Passes};
 ghost use Rattle.dpl_mapped.specs.Named.{IsKnownRank};
 ghost use Rattle.dpl_mapped.specs.Told.{tuple_told};
-ghost use Rattle.dpl_mapped.specs.Made.{AreInts, IsIndexOf, IsStartAs, IsPlainStart};
+ghost use Rattle.dpl_mapped.specs.Made.{AreInts, IsIndexOf, IsStartAs, IsPlainStart, MakesStart};
 
 use crate::low::{ends_low, low_start};
 use crate::rank::{int_start, owed_rank};
@@ -44,7 +43,7 @@ fn plain_start<'t>(
     first: &mut Option<Breach>,
 ) -> Result<Option<StartExpr<'t>>, AllocError>
     ensures told { IfOk result (λ r. first.new ≡ least_from first.old (plain_start_of scopes.now rank word (expr_view e.now))) }
-    ensures node { IfOk result (λ r. first.new ≡ None → WhereSimple scopes.now (expr_view e.now) (IsStartAs scopes.now (StartExprTree (expr_view e.now)) r)) }
+    ensures node { IfOk result (MakesStart scopes.now (expr_view e.now) first.new) }
     ensures deeds { OnOk result (Adds (expr_deeds scopes.now (expr_view e.now)) deeds.old.items deeds.new.items) }
 {
     let Ok(part) = part(arena, scopes, e, deeds, first) else {
@@ -65,7 +64,7 @@ fn expr_start<'t>(
     first: &mut Option<Breach>,
 ) -> Result<Option<StartExpr<'t>>, AllocError>
     ensures told { IfOk result (λ r. first.new ≡ least_from first.old (low_start_of scopes.now rank word (expr_view e.now) (low_of (expr_view e.now)))) }
-    ensures node { IfOk result (λ r. first.new ≡ None → WhereSimple scopes.now (expr_view e.now) (IsStartAs scopes.now (StartExprTree (expr_view e.now)) r)) }
+    ensures node { IfOk result (MakesStart scopes.now (expr_view e.now) first.new) }
     ensures deeds { OnOk result (Adds (expr_deeds scopes.now (expr_view e.now)) deeds.old.items deeds.new.items) }
 {
     match e {

@@ -90,11 +90,11 @@ module _ {N G : Type 0} (scoping : Scoping N G) (Q : G → Place → ItemTree N 
     EachForall (Write w) g = Unit {0}
     EachForall (Block from body upto) g = EachAmong body (scoping.enter g)
     EachForall (If at e first second) g = EachInBody first (scoping.enter g) × EachInElse second g
-    EachForall (Headed WhileWord at e body) g = EachInBody body (scoping.enter g)
+    EachForall (Headed OnWord at e body) g = Unit {0}
+    EachForall (Headed _ at e body) g = EachInBody body (scoping.enter g)
     EachForall (Loop ForWord at xs within item intents body) g = EachInBody body (inside scoping xs g)
     EachForall (Loop ForallWord at xs within item intents body) g = Q g at item body × EachInBody body (inside scoping xs (scoping.intend (intents_of intents) g))
     EachForall (Loop CoforallWord at xs within item intents body) g = Unit {0}
-    EachForall (Headed OnWord at e body) g = Unit {0}
 
     pub EachInBody : Body N → G → Type 0
     EachInBody (WordBody at t) g = EachForall t g

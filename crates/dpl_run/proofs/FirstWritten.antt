@@ -9,7 +9,7 @@ use Rattle.dpl_syntax.specs.declared.place.Place.{Place}
 use Rattle.dpl_syntax.specs.declared.refusal.Breach.{Breach}
 use Rattle.dpl_syntax.specs.declared.refusal.Code.TheVariants.{WrongType, WrittenElsewhere}
 use Rattle.dpl_language.specs.Tree.{Placed, Kind, IntKind, BoolKind, Assign, TypeTree, ScalarType, SyncType, DomainType, ArrayType, InitTree, ItemInit, CreateInit, InitialTree, DeclareTree, Exprs, VariablesTree, OneVariable, ManyVariables, ItemTree, WithTree, Whole, Element}
-use Rattle.dpl_language.specs.Tree.{WhileWord, OnWord, LoopWord, ForWord, ForallWord, CoforallWord, StmtTree, Nothing, Declare, Assigned, Call, Write, Block, If, Headed, Loop, Body, WordBody, BlockBody, Stmts, NoStmts, Then, Else, NoElse, ElseDo}
+use Rattle.dpl_language.specs.Tree.{OnWord, LoopWord, ForWord, ForallWord, CoforallWord, StmtTree, Nothing, Declare, Assigned, Call, Write, Block, If, Headed, Loop, Body, WordBody, BlockBody, Stmts, NoStmts, Then, Else, NoElse, ElseDo}
 use Rattle.dpl_language.specs.Names.{Text}
 use Rattle.dpl_language.specs.Phrases.{parts}
 use Rattle.dpl_language.specs.Declarations.{type_of as written_type}
@@ -285,14 +285,14 @@ module _ (f : Turning) where
         (turn_body-first first inner (enter-stands (Some f) ss stands) within s.2 c.1 (second_empty test one (first_empty (test ++ one) other h))
         (second-done (Some f) tested first_deeds (first-done (Some f) (tested ++ first_deeds) second_deeds m))))
         (turn_else-first second ss stands within s.3 c.2 (second_empty (test ++ one) other h) (second-done (Some f) (tested ++ first_deeds) second_deeds m))
-    turn-first (Headed WhileWord at e body) ss stands within s c h m =
+    turn-first (Headed OnWord at e body) ss stands within s c h m = absurd c.2
+    turn-first (Headed word at e body) ss stands within s c h m =
         let inner = enter ss in
         let tested = expr_deeds ss e in
         behind-first tested (body_deeds inner body) (first_in_body itself body) (expr-reads loop_of ss e)
         (turn_body-first body inner (enter-stands (Some f) ss stands) within s.2 c.1
-        (second_empty (condition_breaches (sight_by (Some f) ss) e) (body_breaches (sight_by (Some f) inner) body) h)
+        (second_empty (head_breaches (sight_by (Some f) ss) word e) (body_breaches (sight_by (Some f) inner) body) h)
         (second-done (Some f) tested (body_deeds inner body) m))
-    turn-first (Headed OnWord at e body) ss stands within s c h m = absurd c.2
     turn-first (Loop ForWord at xs in_word item intents body) ss stands within s c h m =
         let inner = in_loop ss ForWord xs item in
         let head = header_breaches ss ForWord xs item in
@@ -370,14 +370,14 @@ module _ (f : Turning) where
         none-both (body_foralls (enter ss) first) (else_foralls (enter ss) second)
         (turn_body-none first (enter ss) (second-done (Some f) tested one (first-done (Some f) (tested ++ one) other m)))
         (turn_else-none second (enter ss) (second-done (Some f) (tested ++ one) other m))
-    turn-none (Headed WhileWord at e body) ss m = turn_body-none body (enter ss) (second-done (Some f) (expr_deeds ss e) (body_deeds (enter ss) body) m)
+    turn-none (Headed OnWord at e body) ss m = absurd cc
+    turn-none (Headed _ at e body) ss m = turn_body-none body (enter ss) (second-done (Some f) (expr_deeds ss e) (body_deeds (enter ss) body) m)
     turn-none (Loop ForWord at xs within item intents body) ss m =
         let inner = in_loop ss ForWord xs item in
         turn_body-none body inner (second-done (Some f) (item_deeds ss item ++ with_deeds intents) (body_deeds inner body) m)
     turn-none (Loop ForallWord at xs within item intents body) ss m =
         absurd (forall-refuted f at (item_deeds ss item ++ with_deeds intents ++ body_deeds (in_loop ss ForallWord xs item) body) m)
     turn-none (Loop CoforallWord at xs within item intents body) ss m = absurd cc
-    turn-none (Headed OnWord at e body) ss m = absurd cc
     turn-none _ ss m = refl
 
     turn_body-none : (t : Body Text) (ss : Scopes) → MayDoIn (Some f) (body_deeds ss t) → body_foralls ss t ≡ []

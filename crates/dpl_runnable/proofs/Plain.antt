@@ -4,7 +4,7 @@ use Rattle.std.proofs.Common.{◌≡◌, ℕ, true, List, [], ◌∷◌, Option,
 use Rattle.std.proofs.lemmas.Option.{none-some}
 use Rattle.dpl_syntax.specs.declared.place.Place.{Place}
 use Rattle.dpl_language.specs.Tree.{Op, WithTree, Assign, Set, SetAdd, SetSubtract, SetMultiply, SetDivide, SetRemainder, SetReduce, Kind, IntKind, BoolKind, ExprTree, ItemTree, VariablesTree, TypeTree, ScalarType, SyncType, DomainType, ArrayType, MappedTree, InitTree, ItemInit, CreateInit, InitialTree, DeclareTree}
-use Rattle.dpl_language.specs.Tree.{ArgumentTree, TextArgument, ExprArgument, Whole, Element, WhileWord, OnWord, LoopWord, ForWord, ForallWord, CoforallWord, StmtTree, Nothing, Declare, Assigned, Call, Write, Block, If, Headed, Loop, Body, WordBody, BlockBody, Stmts, NoStmts, Then, Else, NoElse, ElseDo}
+use Rattle.dpl_language.specs.Tree.{ArgumentTree, TextArgument, ExprArgument, Whole, Element, OnWord, LoopWord, ForWord, ForallWord, CoforallWord, StmtTree, Nothing, Declare, Assigned, Call, Write, Block, If, Headed, Loop, Body, WordBody, BlockBody, Stmts, NoStmts, Then, Else, NoElse, ElseDo}
 use Rattle.dpl_language.specs.Names.{Text}
 use Rattle.dpl_language.specs.Writing.{arguments_of}
 use Rattle.dpl_language.specs.Declarations.{type_of as written_type}
@@ -160,8 +160,8 @@ mutual
     body-plain first (enter ss) is (tt, open-known ss h) r.1 w.0,
     else-plain second ss is h r.2 w.1,
   )
-  stmt-plain (Headed WhileWord at e body) ss is h r w = (r.2, expr-plain ss e _ (open-known ss h) r.0, body-plain body (enter ss) is (tt, open-known ss h) r.1 w)
   stmt-plain (Headed OnWord at e body) ss is h r w = absurd r.3
+  stmt-plain (Headed _ at e body) ss is h r w = (r.2, expr-plain ss e _ (open-known ss h) r.0, body-plain body (enter ss) is (tt, open-known ss h) r.1 w)
   stmt-plain (Loop word at xs within item intents body) ss is h r w =
       loop-plain ss word at xs within item intents body r.3 r.2 (head-plain ss xs item (open-known ss h) r.0 w.0)
       (body-plain body (in_loop ss word xs item) (reduced_in ss is word intents) (loop-open no_start ss h word r.3 xs item r.0 is) r.1 w.1)

@@ -2,7 +2,7 @@
 -- many slots as it needs, where the command line gives what it owes the names at the end. So all that is in sight there is known.
 use Rattle.std.proofs.Common.{◌≡◌, ℕ, ◌+◌, ◌<◌, ◌≤◌, List, [], Option, Some, None, refl, sym, ap, ◌∙◌, subst, arith}
 use Rattle.std.specs.Prelude.{option_map}
-use Rattle.dpl_language.specs.Tree.{Op, ItemTree, WithTree, VariablesTree, Whole, Element, WhileWord, OnWord, LoopWord, ForWord, ForallWord, CoforallWord, StmtTree, Nothing, Declare, Assigned, Call, Write, Block, If, Headed, Loop, Body, WordBody, BlockBody, Stmts, NoStmts, Then, Else, NoElse, ElseDo, ProgramTree}
+use Rattle.dpl_language.specs.Tree.{Op, ItemTree, WithTree, VariablesTree, Whole, Element, OnWord, LoopWord, ForWord, ForallWord, CoforallWord, StmtTree, Nothing, Declare, Assigned, Call, Write, Block, If, Headed, Loop, Body, WordBody, BlockBody, Stmts, NoStmts, Then, Else, NoElse, ElseDo, ProgramTree}
 use Rattle.dpl_language.specs.Names.{Text}
 use Rattle.dpl_language.specs.Writing.{arguments_of}
 use Rattle.dpl_agreement.specs.Renamed.{renamed_item, renamed_with}
@@ -163,8 +163,8 @@ module _ (start : Start) where
           body-fits first (enter ss) is n (tt, open-known ss h) r.1 (omega (arith, more, le)),
           else-fits second ss is (slots_body (enter ss) first n) h r.2 le,
         )
-    stmt-fits (Headed WhileWord at e body) ss is n h r le = (expr-fits start ss (open-known ss h) is e r.0.found, body-fits body (enter ss) is n (tt, open-known ss h) r.1 le, tt)
     stmt-fits (Headed OnWord at e body) ss is n h r le = absurd r.3
+    stmt-fits (Headed _ at e body) ss is n h r le = (expr-fits start ss (open-known ss h) is e r.0.found, body-fits body (enter ss) is n (tt, open-known ss h) r.1 le, tt)
     stmt-fits (Loop word at xs within item intents body) ss is n h r le =
         let inner = in_loop ss word xs item in
         let js = reduced_in ss is word intents in

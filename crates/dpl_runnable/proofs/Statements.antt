@@ -1,7 +1,7 @@
 -- A statement that a text spells, that needs nothing which doesn't run and that breaks no rule is runnable, where each name in
 -- sight has a type of some kind; and so is a program.
 use Rattle.std.proofs.Common.{◌≡◌, [], ◌++◌, Option, Some, None, refl}
-use Rattle.dpl_language.specs.Tree.{ExprTree, Whole, Element, HeadWord, WhileWord, OnWord, ForWord, ForallWord, CoforallWord, StmtTree, Nothing, Declare, Assigned, Call, Write, Block, If, Headed, Loop, Body, WordBody, BlockBody, Stmts, NoStmts, Then, Else, NoElse, ElseDo}
+use Rattle.dpl_language.specs.Tree.{ExprTree, Whole, Element, HeadWord, OnWord, ForWord, ForallWord, CoforallWord, StmtTree, Nothing, Declare, Assigned, Call, Write, Block, If, Headed, Loop, Body, WordBody, BlockBody, Stmts, NoStmts, Then, Else, NoElse, ElseDo}
 use Rattle.dpl_language.specs.Names.{Text}
 use Rattle.dpl_spelling.specs.Spelt.{ExprSpelt, StmtSpelt, BodySpelt, StmtsSpelt, ElseSpelt}
 use Rattle.dpl_agreement.specs.Untasked.{UntaskedExpr, UntaskedHead, UntaskedStmt, UntaskedBody, UntaskedStmts, UntaskedElse}
@@ -29,8 +29,8 @@ use Rattle.dpl_runnable.proofs.Around.{Turning, forall_by, intents_by, sight_by,
 -- an expression behind a word that runs is a condition
 runnable_head : (word : HeadWord) (f : Option Turning) (ss : Scopes) → Stands f ss → (e : ExprTree Text) → ExprSpelt IsNear ⊥ e → UntaskedExpr e → UntaskedHead word
     → head_breaches (sight_by f ss) word e ≡ [] → IsExprOf ss e (PlainKind TruthLeaf)
-runnable_head WhileWord f ss stands e s c runs h = runnable_condition ss stands.names (forall_by f) e s c h
 runnable_head OnWord f ss stands e s c runs h = absurd runs
+runnable_head _ f ss stands e s c runs h = runnable_condition ss stands.names (forall_by f) e s c h
 
 mutual
   pub runnable_stmt : (t : StmtTree Text) (f : Option Turning) (ss : Scopes) → Stands f ss → StmtSpelt IsNear ⊥ t → IsWrittenStmt t → UntaskedStmt t

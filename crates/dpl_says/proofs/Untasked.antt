@@ -7,7 +7,7 @@ use Rattle.dpl_grammar.specs.Classes.{in_class, task_words, first_of}
 use Rattle.dpl_grammar.specs.Each.{Each, IfThere}
 use Rattle.dpl_language.specs.Names.{Text}
 use Rattle.dpl_language.specs.Tree.{AfterComma, Listed, ExprTree, Number, TruthWord, Named, LocalesWord, LocaleCount, HereWord, Grouped, DomainLiteral, Prefixed, Reduced, Chain, Postfixed, ItemTree, One, RangeItem, Stride, NoStride, By, Links, NoLinks, Link, Posts, NoPosts, Post, PostTree, Brackets, Rounds, Dotted, MethodTree, Plainly, Dim, Contains, Expand, CellRead, Items, FirstItem, MoreItems, NoItems, NextItem, Exprs, FirstExpr, MoreExprs, NoExprs, NextExpr}
-use Rattle.dpl_language.specs.Tree.{StartTree, StartExpr, StartTuple, MapTree, BlockMap, CyclicMap, BlockCyclicMap, MappedTree, TypeTree, ScalarType, SyncType, DomainType, ArrayType, InitTree, ItemInit, CreateInit, DeclareTree, ArgumentTree, TextArgument, ExprArgument, WriteTree, TargetTree, Whole, Element, CallTree, ReadCall, ResetCall, WriteCall, HeadWord, WhileWord, OnWord, LoopWord, ForWord, ForallWord, CoforallWord, StmtTree, Nothing, Declare, Assigned, Call, Write, Block, If, Headed, Loop, Body, WordBody, BlockBody, Stmts, NoStmts, Then, Else, NoElse, ElseDo, ProgramTree}
+use Rattle.dpl_language.specs.Tree.{StartTree, StartExpr, StartTuple, MapTree, BlockMap, CyclicMap, BlockCyclicMap, MappedTree, TypeTree, ScalarType, SyncType, DomainType, ArrayType, InitTree, ItemInit, CreateInit, DeclareTree, ArgumentTree, TextArgument, ExprArgument, WriteTree, TargetTree, Whole, Element, CallTree, ReadCall, ResetCall, WriteCall, HeadWord, OnWord, LoopWord, CoforallWord, StmtTree, Nothing, Declare, Assigned, Call, Write, Block, If, Headed, Loop, Body, WordBody, BlockBody, Stmts, NoStmts, Then, Else, NoElse, ElseDo, ProgramTree}
 use Rattle.dpl_agreement.specs.Untasked.{UntaskedIf, UntaskedOthers, UntaskedList, UntaskedExpr, UntaskedItem, UntaskedStride, UntaskedLinks, UntaskedPosts, UntaskedPost, UntaskedMethod, UntaskedItems, UntaskedMoreItems, UntaskedExprs, UntaskedMoreExprs, UntaskedStart, UntaskedMap, UntaskedMapped, UntaskedType, UntaskedInit, UntaskedTyped, UntaskedInitial, UntaskedDeclare, UntaskedArgument, UntaskedWrite, UntaskedTarget, UntaskedCall, UntaskedHead, UntaskedLoop, UntaskedStmt, UntaskedBody, UntaskedStmts, UntaskedElse}
 use Rattle.dpl_spelling.specs.Spelt.{PartSpelt, ListSpelt, ExprSpelt, ItemSpelt, StrideSpelt, LinksSpelt, PostsSpelt, PostSpelt, MethodSpelt, ItemsSpelt, MoreItemsSpelt, ExprsSpelt, MoreExprsSpelt, StartSpelt, MapSpelt, MappedSpelt, TypeSpelt, InitSpelt, TypedSpelt, InitialSpelt, DeclareSpelt, ArgumentSpelt, WriteSpelt, TargetSpelt, CallSpelt, HeadWordSpelt, LoopWordSpelt, StmtSpelt, BodySpelt, StmtsSpelt, ElseSpelt}
 use Rattle.dpl_spelling.specs.Theorem.{Spells}
@@ -134,13 +134,12 @@ module _ (P : Place → Type 0) where
   call-untasked (WriteCall at w from e upto) s = expr-untasked e s.2
 
   head-untasked : (word : HeadWord) → HeadWordSpelt P ⊥ word → UntaskedHead word
-  head-untasked WhileWord s = tt
   head-untasked OnWord s = s
+  head-untasked _ s = tt
 
   loop-untasked : (word : LoopWord) → LoopWordSpelt P ⊥ word → UntaskedLoop word
-  loop-untasked ForWord s = tt
-  loop-untasked ForallWord s = tt
   loop-untasked CoforallWord s = s
+  loop-untasked _ s = tt
 
   mutual
     stmt-untasked : (t : StmtTree Text) → StmtSpelt P ⊥ t → UntaskedStmt t
