@@ -38,6 +38,9 @@ pub fn chain<'t>(
     ensures shorter { IfOk result (λ x. length x.1.now < length tokens.now) }
 {
     let (first, rest) = operand(arena, level, room, tokens)?;
+    if !level.is_next(rest) {
+        return Ok((first, rest));
+    }
     let (links, rest) = links(arena, level, room, rest)?;
     let whole = chained(arena, first, links)?;
     Ok((whole, rest))

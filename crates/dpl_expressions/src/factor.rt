@@ -58,6 +58,9 @@ fn product<'t>(arena: Arena<'t>, room: u32, tokens: Tokens<'t>) -> Parsed<'t, &'
     ensures shorter { IfOk result (λ x. length x.1.now < length tokens.now) }
 {
     let (first, rest) = not(arena, room, tokens)?;
+    if !is_product_operator(rest) {
+        return Ok((first, rest));
+    }
     let (factors, rest) = factors(arena, room, rest)?;
     let whole = chained(arena, first, factors)?;
     Ok((whole, rest))

@@ -26,6 +26,9 @@ pub fn postfix<'t>(arena: Arena<'t>, room: u32, tokens: Tokens<'t>) -> Parsed<'t
     ensures shorter { IfOk result (λ x. length x.1.now < length tokens.now) }
 {
     let (base, rest) = base(arena, room, tokens)?;
+    if !begins_post(rest) {
+        return Ok((base, rest));
+    }
     let (posts, rest) = posts(arena, room, rest)?;
     let whole = postfixed(arena, base, posts)?;
     Ok((whole, rest))

@@ -11,10 +11,23 @@ use Rattle.dpl_grammar.proofs.Turns.{goes_on, ends, so_fails}
 use Rattle.dpl_grammar.proofs.RunTurns.{run_goes_on, run_last, run_ends, run_fails}
 use Rattle.dpl_tree.specs.View.{expr_view, post_view, next_expr_view}
 use Rattle.dpl_spelling.specs.Nested.{ItemBelow, ExpressionBelow}
-use Rattle.dpl_spelling.specs.Expressions.{Further, after_comma, post, is_negated, further_factor}
+use Rattle.dpl_spelling.specs.Expressions.{Further, after_comma, base, post, is_negated, further_factor}
 use Rattle.dpl_spelling.specs.Reading.{at, late_at}
 use Rattle.dpl_expressions.specs.Levels.{further_rule, further_view, next_item_view}
+use Rattle.dpl_expressions.proofs.Levels.{operand_alone, factor_alone, base_alone}
 use Rattle.dpl_expressions.proofs.+expression.Goals as goal
+
+pub chain::chain-returns-then-not-is_next-clause-gives : goal.chain::chain-returns-then-not-is_next-clause-gives
+chain::chain-returns-then-not-is_next-clause-gives t c =
+    operand_alone base c.args.room c.args.tokens.now (expr_view c.in_ok-first.first.now) c.in_ok-first.rest.now c.args.level c.in_ok-first.ensures.gives (sym c.is_next.ensures ∙ c.if-not-is_next.true)
+
+pub factor::product-returns-then-not-is_product_operator-clause-gives : goal.factor::product-returns-then-not-is_product_operator-clause-gives
+factor::product-returns-then-not-is_product_operator-clause-gives t c =
+    factor_alone base c.args.room c.args.tokens.now (expr_view c.in_ok-first.first.now) c.in_ok-first.rest.now c.in_ok-first.ensures.gives (sym c.is_product_operator.ensures ∙ c.if-not-is_product_operator.true)
+
+pub postfix::postfix-returns-then-not-begins_post-clause-gives : goal.postfix::postfix-returns-then-not-begins_post-clause-gives
+postfix::postfix-returns-then-not-begins_post-clause-gives t c =
+    base_alone base c.args.room c.args.tokens.now (expr_view c.in_ok-base.base.now) c.in_ok-base.rest.now c.in_ok-base.ensures.gives (sym c.begins_post.ensures ∙ c.if-not-begins_post.true)
 
 pub chain::links-returns-in_err-link-clause-gives : goal.chain::links-returns-in_err-link-clause-gives
 chain::links-returns-in_err-link-clause-gives t c =
