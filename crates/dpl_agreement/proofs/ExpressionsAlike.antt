@@ -5,8 +5,8 @@ use Rattle.std.specs.Prelude.{if◌then◌else◌}
 use Rattle.std.specs.Option.{option_or}
 use Rattle.dpl_syntax.specs.declared.place.Place.{Place}
 use Rattle.dpl_sets.specs.TextRanges.{TextRange}
-use Rattle.dpl_language.specs.Tree.{Placed, Op, ExprTree, Number, TruthWord, Named, LocalesWord, LocaleCount, HereWord, Grouped, DomainLiteral, Prefixed, Reduced, Chain, Postfixed, ItemTree, One, RangeItem, Stride, NoStride, By, Links, NoLinks, Link, Posts, NoPosts, Post, PostTree, Brackets, Rounds, Dotted, MethodTree, Plainly, Dim, Contains, Expand, CellRead, Items, FirstItem, MoreItems, NoItems, NextItem, Exprs, FirstExpr, MoreExprs, NoExprs, NextExpr}
-use Rattle.dpl_language.specs.Values.{Value, Int, Truth, Range, Domain, Array, Cell, Locale, AllLocales, Tuple, Index, number, index_of, array_domain, Fault, fault, Budget}
+use Rattle.dpl_language.specs.Tree.{Placed, Op, ExprTree, Named, HereWord, Grouped, DomainLiteral, Prefixed, Reduced, Chain, Postfixed, ItemTree, One, RangeItem, Stride, NoStride, By, Links, NoLinks, Link, Posts, NoPosts, Post, PostTree, Brackets, Rounds, Dotted, MethodTree, Plainly, Dim, Contains, Expand, CellRead, Items, FirstItem, MoreItems, NoItems, NextItem, Exprs, FirstExpr, MoreExprs, NoExprs, NextExpr}
+use Rattle.dpl_language.specs.Values.{Value, Array, Locale, AllLocales, Index, number, index_of, array_domain, Fault, fault, Budget}
 use Rattle.dpl_language.specs.Arithmetic.{infix_of, divides, tested_divisor, decides, combined, unit_of}
 use Rattle.dpl_language.specs.Ranges.{indices_in, size_in, bounded, leading}
 use Rattle.dpl_language.specs.Outcome.{naming_value}
@@ -55,18 +55,14 @@ module _ {N G : Type 0} (scoping : Scoping N G) where
 
   mutual
     pub fits_expr-once : (t : Index) (e : ExprTree N) (g : G) → fits_expr scoping (Some t) e g → fits_expr scoping None e g
-    fits_expr-once t (Number at n) g f = tt
-    fits_expr-once t (TruthWord at b) g f = tt
     fits_expr-once t (Named x) g f = f.0
-    fits_expr-once t (LocalesWord at) g f = tt
-    fits_expr-once t (LocaleCount at) g f = tt
-    fits_expr-once t (HereWord at) g f = tt
     fits_expr-once t (Grouped from item upto) g f = fits_item-once t item g f
     fits_expr-once t (DomainLiteral from items upto) g f = f
     fits_expr-once t (Prefixed at op e) g f = fits_expr-once t e g f
     fits_expr-once t (Reduced at op word e) g f = f
     fits_expr-once t (Chain e rest) g f = (fits_expr-once t e g f.0, fits_links-once t rest g f.1)
     fits_expr-once t (Postfixed e posts) g f = f
+    fits_expr-once t _ g f = tt
 
     pub fits_item-once : (t : Index) (i : ItemTree N) (g : G) → fits_item scoping (Some t) i g → fits_item scoping None i g
     fits_item-once t (One e) g f = fits_expr-once t e g f
@@ -86,15 +82,9 @@ module _ {M N G S1 S2 : Type 0} (limits : Limits) (name : N → M) (scoping : Sc
 
   bracketed-same : (b : Base N) (items : Items N) (vs : List Value) (v : Value) (g : G) (s1 : S1) (s2 : S2) → R g s1 s2 → fits_element scoping b items g → items_of limits second items s2 ≡ Ok vs
       → bracketed limits first (renamed_base name b) vs v s1 ≡ bracketed limits second b vs v s2
-  bracketed-same b items vs (Int n) g s1 s2 r f e = refl
-  bracketed-same b items vs (Truth c) g s1 s2 r f e = refl
-  bracketed-same b items vs (Range c) g s1 s2 r f e = refl
-  bracketed-same b items vs (Domain rs) g s1 s2 r f e = refl
   bracketed-same b items vs (Array k rs) g s1 s2 r f e = element_of-same b items vs g s1 s2 r f e
-  bracketed-same b items vs (Cell k) g s1 s2 r f e = refl
-  bracketed-same b items vs (Locale k) g s1 s2 r f e = refl
   bracketed-same b items vs AllLocales g s1 s2 r f e = locale_of-renamed name limits.locales b (leading (index_of vs))
-  bracketed-same b items vs (Tuple is) g s1 s2 r f e = refl
+  bracketed-same b items vs _ g s1 s2 r f e = refl
 
   -- a name: its value, or its element at the index
   named_at-same : (t : Option Index) (x : Placed N) (o : Option (List TextRange)) (v : Value) (g : G) (s1 : S1) (s2 : S2) → R g s1 s2 → fits_name scoping t x.name g
@@ -110,20 +100,13 @@ module _ {M N G S1 S2 : Type 0} (limits : Limits) (name : N → M) (scoping : Sc
   -- the domain of the first whole array
   mutual
     pub whole_in-renamed : (e : ExprTree N) (m : Option Index) (g : G) (s1 : S1) (s2 : S2) → R g s1 s2 → fits_expr scoping m e g → whole_in limits first (renamed_expr name e) s1 ≡ whole_in limits second e s2
-    whole_in-renamed (Number at n) m g s1 s2 r f = refl
-    whole_in-renamed (TruthWord at b) m g s1 s2 r f = refl
     whole_in-renamed (Named x) m g s1 s2 r f = ap array_domain (sim.gets x.name g s1 s2 r (fits_name-reads scoping m x.name g f))
-    whole_in-renamed (LocalesWord at) m g s1 s2 r f = refl
-    whole_in-renamed (LocaleCount at) m g s1 s2 r f = refl
-    whole_in-renamed (HereWord at) m g s1 s2 r f = refl
     whole_in-renamed (Grouped from item upto) m g s1 s2 r f = whole_item-renamed item m g s1 s2 r f
-    whole_in-renamed (DomainLiteral from items upto) m g s1 s2 r f = refl
     whole_in-renamed (Prefixed at op e) m g s1 s2 r f = whole_in-renamed e m g s1 s2 r f
-    whole_in-renamed (Reduced at op word e) m g s1 s2 r f = refl
     whole_in-renamed (Chain e rest) m g s1 s2 r f =
         ap (λ o. option_or o (whole_links limits first (renamed_links name rest) s1)) (whole_in-renamed e m g s1 s2 r f.0)
         ∙ ap (option_or (whole_in limits second e s2)) (whole_links-renamed rest m g s1 s2 r f.1)
-    whole_in-renamed (Postfixed e posts) m g s1 s2 r f = refl
+    whole_in-renamed _ m g s1 s2 r f = refl
 
     pub whole_item-renamed : (i : ItemTree N) (m : Option Index) (g : G) (s1 : S1) (s2 : S2) → R g s1 s2 → fits_item scoping m i g → whole_item limits first (renamed_item name i) s1 ≡ whole_item limits second i s2
     whole_item-renamed (One e) m g s1 s2 r f = whole_in-renamed e m g s1 s2 r f
@@ -137,11 +120,7 @@ module _ {M N G S1 S2 : Type 0} (limits : Limits) (name : N → M) (scoping : Sc
 
   mutual
     pub value_of-renamed : (e : ExprTree N) (t : Option Index) (g : G) (s1 : S1) (s2 : S2) → R g s1 s2 → fits_expr scoping t e g → value_of limits first (renamed_expr name e) t s1 ≡ value_of limits second e t s2
-    value_of-renamed (Number at n) t g s1 s2 r f = refl
-    value_of-renamed (TruthWord at b) t g s1 s2 r f = refl
     value_of-renamed (Named x) t g s1 s2 r f = named-same t x _ _ g s1 s2 r f (sim.gets x.name g s1 s2 r (fits_name-reads scoping t x.name g f))
-    value_of-renamed (LocalesWord at) t g s1 s2 r f = refl
-    value_of-renamed (LocaleCount at) t g s1 s2 r f = refl
     value_of-renamed (HereWord at) t g s1 s2 r f = ap (λ k. Ok (Locale k)) (sim.heres g s1 s2 r)
     value_of-renamed (Grouped from item upto) t g s1 s2 r f = item_of-renamed item t g s1 s2 r f
     value_of-renamed (DomainLiteral from items upto) t g s1 s2 r f = with_ok-same _ _ _ _ (items_of-renamed items g s1 s2 r f) (λ vs. refl)
@@ -152,6 +131,7 @@ module _ {M N G S1 S2 : Type 0} (limits : Limits) (name : N → M) (scoping : Sc
     value_of-renamed (Postfixed e posts) t g s1 s2 r f =
         with_ok-same _ _ _ _ (value_of-renamed e None g s1 s2 r f.0)
         (λ v. ap (λ b. behind limits first (renamed_posts name posts) b s1 v) (base_of-renamed name e) ∙ behind-renamed posts (base_of e) g s1 s2 r f.1 v)
+    value_of-renamed _ t g s1 s2 r f = refl
 
     chained-renamed : (l : Links N) (t : Option Index) (g : G) (s1 : S1) (s2 : S2) → R g s1 s2 → fits_links scoping t l g → (v : Value) → chained limits first (renamed_links name l) t s1 v ≡ chained limits second l t s2 v
     chained-renamed NoLinks t g s1 s2 r f v = refl

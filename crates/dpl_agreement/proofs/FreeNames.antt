@@ -2,7 +2,7 @@
 -- For environments that agree of all names, wherever they stand.
 use Rattle.std.proofs.Common.{pos, List, [], ◌∷◌, refl, Some, None, Option}
 use Rattle.dpl_syntax.specs.declared.place.Place.{Place}
-use Rattle.dpl_language.specs.Tree.{Placed, Kind, ExprTree, Number, TruthWord, Named, LocalesWord, LocaleCount, HereWord, Grouped, DomainLiteral, Prefixed, Reduced, Chain, Postfixed, ItemTree, One, RangeItem, Stride, NoStride, By, Links, NoLinks, Link, Posts, NoPosts, Post, PostTree, Brackets, Rounds, Dotted, MethodTree, Plainly, Dim, Contains, Expand, CellRead, Items, FirstItem, MoreItems, NoItems, NextItem, Exprs, FirstExpr, MoreExprs, NoExprs, NextExpr}
+use Rattle.dpl_language.specs.Tree.{Placed, Kind, ExprTree, Named, Grouped, DomainLiteral, Prefixed, Reduced, Chain, Postfixed, ItemTree, One, RangeItem, Stride, NoStride, By, Links, NoLinks, Link, Posts, NoPosts, Post, PostTree, Brackets, Rounds, Dotted, MethodTree, Plainly, Dim, Contains, Expand, CellRead, Items, FirstItem, MoreItems, NoItems, NextItem, Exprs, FirstExpr, MoreExprs, NoExprs, NextExpr}
 use Rattle.dpl_language.specs.Tree.{StartTree, StartExpr, StartTuple, MapTree, BlockMap, CyclicMap, BlockCyclicMap, MappedTree, TypeTree, ScalarType, SyncType, DomainType, ArrayType, InitTree, ItemInit, CreateInit, InitialTree, DeclareTree, ArgumentTree, TextArgument, ExprArgument, WithTree, VariablesTree, OneVariable, ManyVariables, TargetTree, Whole, Element, CallTree, ReadCall, ResetCall, WriteCall, HeadWord, OnWord, LoopWord, ForWord, StmtTree, Nothing, Declare, Assigned, Call, Write, Block, If, Headed, Loop, Body, WordBody, BlockBody, Stmts, NoStmts, Then, Else, NoElse, ElseDo}
 use Rattle.dpl_language.specs.Values.{Value, Int, Domain, Index, default}
 use Rattle.dpl_language.specs.Ranges.{empty_domain}
@@ -58,18 +58,14 @@ module _ {N : Type 0} where
 
   mutual
     expr_fits : (e : ExprTree N) (t : Option Index) → fits_expr anything t e tt
-    expr_fits (Number at n) t = tt
-    expr_fits (TruthWord at b) t = tt
     expr_fits (Named x) t = name_fits t x.name
-    expr_fits (LocalesWord at) t = tt
-    expr_fits (LocaleCount at) t = tt
-    expr_fits (HereWord at) t = tt
     expr_fits (Grouped from item upto) t = item_fits item t
     expr_fits (DomainLiteral from items upto) t = items_fit items
     expr_fits (Prefixed at op e) t = expr_fits e t
     expr_fits (Reduced at op word e) t = λ i. expr_fits e (Some i)
     expr_fits (Chain e rest) t = (expr_fits e t, links_fit rest t)
     expr_fits (Postfixed e posts) t = (expr_fits e None, posts_fit posts (base_of e))
+    expr_fits _ t = tt
 
     pub item_fits : (i : ItemTree N) (t : Option Index) → fits_item anything t i tt
     item_fits (One e) t = expr_fits e t
@@ -124,18 +120,12 @@ module _ {N : Type 0} where
   whole_side_fits i = (λ t. item_fits i (Some t), read_fits (item_read i))
 
   type_fits : (t : Option (TypeTree N)) → fits_type anything t tt
-  type_fits None = tt
-  type_fits (Some (ScalarType at k)) = tt
-  type_fits (Some (SyncType at kind_at k)) = tt
-  type_fits (Some (DomainType d)) = tt
   type_fits (Some (ArrayType a)) = items_fit a.over
+  type_fits _ = tt
 
   side_by_fits : (t : Option (TypeTree N)) (i : ItemTree N) → side_by anything t i tt
-  side_by_fits None i = side_fits i
-  side_by_fits (Some (ScalarType at k)) i = side_fits i
-  side_by_fits (Some (SyncType at kind_at k)) i = side_fits i
-  side_by_fits (Some (DomainType d)) i = side_fits i
   side_by_fits (Some (ArrayType a)) i = whole_side_fits i
+  side_by_fits _ i = side_fits i
 
   init_fits : (t : Option (TypeTree N)) (i : InitTree N) → fits_init anything (side_by anything t) i tt
   init_fits t (ItemInit item mapped) = side_by_fits t item

@@ -9,7 +9,7 @@ use Rattle.dpl_history.specs.declared.cell.Reply.{Reply}
 use Rattle.dpl_history.specs.declared.history.Event.{Event}
 use Rattle.dpl_history.specs.Cells.{effect}
 use Rattle.dpl_language.specs.Tree.{ProgramTree}
-use Rattle.dpl_language.specs.Values.{Value, Int, Truth, Range, Domain, Array, Cell, Locale, AllLocales, Tuple}
+use Rattle.dpl_language.specs.Values.{Value, AllLocales}
 use Rattle.dpl_language.specs.Outcome.{no_deeds}
 use Rattle.dpl_language.specs.Names.{Text, State, paired, look_up, update_in, put_in, set_cell, state_in, effect_on, call_in, by_name}
 use Rattle.dpl_language.specs.Program.{settled, first_state, meaning}
@@ -27,15 +27,8 @@ abbrev FreeState : State → Type 0
 FreeState s = FreeStore s.store × GivesNoLocales s.sets
 
 other-free : (v : Value) → v ≢ AllLocales → NotLocales v
-other-free (Int n) h = tt
-other-free (Truth b) h = tt
-other-free (Range r) h = tt
-other-free (Domain rs) h = tt
-other-free (Array k rs) h = tt
-other-free (Cell k) h = tt
-other-free (Locale n) h = tt
 other-free AllLocales h = h refl
-other-free (Tuple is) h = tt
+other-free _ h = tt
 
 paired-free : (x : Text) (ps : List (Text × Value)) → GivesNoLocales ps → IfSome (paired x ps) NotLocales
 paired-free x [] h = tt

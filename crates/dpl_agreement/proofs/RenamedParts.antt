@@ -3,7 +3,7 @@
 use Rattle.std.proofs.Common.{◌≡◌, List, [], ◌∷◌, refl, ap, ◌∙◌, Some, None, Option, map}
 use Rattle.std.specs.Prelude.{option_map}
 use Rattle.dpl_history.specs.declared.cell.CellOp.{CellOp}
-use Rattle.dpl_language.specs.Tree.{Size, First, Last, Low, High, LowBound, DomainOf, Id, Placed, AfterComma, Listed, ExprTree, Number, TruthWord, Named, LocalesWord, LocaleCount, HereWord, Grouped, DomainLiteral, Prefixed, Reduced, Chain, Postfixed, ItemTree, One, RangeItem, Posts, NoPosts, Post, PostTree, Brackets, Rounds, Dotted, MethodTree, Plainly, Dim, Contains, Expand, CellRead, Items, FirstItem, NoItems, NextItem, TypedTree, ArgumentTree, IntentTree, ReduceIntent, RefIntent, WithTree}
+use Rattle.dpl_language.specs.Tree.{DomainOf, Placed, AfterComma, Listed, ExprTree, Number, Grouped, Postfixed, ItemTree, One, RangeItem, Posts, NoPosts, Post, PostTree, Brackets, Rounds, Dotted, MethodTree, Plainly, Items, FirstItem, NoItems, NextItem, TypedTree, ArgumentTree, IntentTree, ReduceIntent, RefIntent, WithTree}
 use Rattle.dpl_language.specs.Phrases.{parts, base_of, item_base, bare_name, method_read, post_read, posts_read, read_by, cell_read, item_read, name_of, item_over, declared_over, reduce_intents, intents_of}
 use Rattle.dpl_language.specs.Declarations.{type_of}
 use Rattle.dpl_language.specs.Roots.{by_post, by_posts, derived_from, derived_item, derived_over}
@@ -20,18 +20,8 @@ parts-mapped f xs = ap (λ ys. f xs.first ∷ ys) (others-mapped xs.others)
 module _ {M N : Type 0} (f : M → N) where
   mutual
     pub base_of-renamed : (e : ExprTree M) → base_of (renamed_expr f e) ≡ renamed_base f (base_of e)
-    base_of-renamed (Number at n) = refl
-    base_of-renamed (TruthWord at b) = refl
-    base_of-renamed (Named x) = refl
-    base_of-renamed (LocalesWord at) = refl
-    base_of-renamed (LocaleCount at) = refl
-    base_of-renamed (HereWord at) = refl
     base_of-renamed (Grouped from item upto) = item_base-renamed item
-    base_of-renamed (DomainLiteral from items upto) = refl
-    base_of-renamed (Prefixed at op e) = refl
-    base_of-renamed (Reduced at op word e) = refl
-    base_of-renamed (Chain e rest) = refl
-    base_of-renamed (Postfixed e posts) = refl
+    base_of-renamed _ = refl
 
     item_base-renamed : (i : ItemTree M) → item_base (renamed_item f i) ≡ renamed_base f (item_base i)
     item_base-renamed (One e) = base_of-renamed e
@@ -39,24 +29,11 @@ module _ {M N : Type 0} (f : M → N) where
 
   pub bare_name-renamed : (e : ExprTree M) → bare_name (renamed_expr f e) ≡ option_map (renamed f) (bare_name e)
   bare_name-renamed (Number at n) = refl
-  bare_name-renamed (TruthWord at b) = refl
-  bare_name-renamed (Named x) = refl
-  bare_name-renamed (LocalesWord at) = refl
-  bare_name-renamed (LocaleCount at) = refl
-  bare_name-renamed (HereWord at) = refl
-  bare_name-renamed (Grouped from item upto) = refl
-  bare_name-renamed (DomainLiteral from items upto) = refl
-  bare_name-renamed (Prefixed at op e) = refl
-  bare_name-renamed (Reduced at op word e) = refl
-  bare_name-renamed (Chain e rest) = refl
-  bare_name-renamed (Postfixed e posts) = refl
+  bare_name-renamed _ = refl
 
   method_read-renamed : (m : MethodTree M) → method_read (renamed_method f m) ≡ method_read m
   method_read-renamed (Plainly at w) = refl
-  method_read-renamed (Dim at from rank_at d upto) = refl
-  method_read-renamed (Contains at from es upto) = refl
-  method_read-renamed (Expand at from e upto) = refl
-  method_read-renamed (CellRead at w from upto) = refl
+  method_read-renamed _ = refl
 
   post_read-renamed : (p : PostTree M) → post_read (renamed_post f p) ≡ post_read p
   post_read-renamed (Brackets from items upto) = refl
@@ -74,21 +51,11 @@ module _ {M N : Type 0} (f : M → N) where
   read_by-renamed (Some x) (Some op) = refl
 
   cell_read-renamed : (e : ExprTree M) → cell_read (renamed_expr f e) ≡ option_map (renamed_read f) (cell_read e)
-  cell_read-renamed (Number at n) = refl
-  cell_read-renamed (TruthWord at b) = refl
-  cell_read-renamed (Named x) = refl
-  cell_read-renamed (LocalesWord at) = refl
-  cell_read-renamed (LocaleCount at) = refl
-  cell_read-renamed (HereWord at) = refl
-  cell_read-renamed (Grouped from item upto) = refl
-  cell_read-renamed (DomainLiteral from items upto) = refl
-  cell_read-renamed (Prefixed at op e) = refl
-  cell_read-renamed (Reduced at op word e) = refl
-  cell_read-renamed (Chain e rest) = refl
   cell_read-renamed (Postfixed e posts) =
       ap (λ x. read_by x (posts_read (renamed_posts f posts))) (bare_name-renamed e)
       ∙ ap (read_by (option_map (renamed f) (bare_name e))) (posts_read-renamed posts)
       ∙ read_by-renamed (bare_name e) (posts_read posts)
+  cell_read-renamed _ = refl
 
   pub item_read-renamed : (i : ItemTree M) → item_read (renamed_item f i) ≡ option_map (renamed_read f) (item_read i)
   item_read-renamed (One e) = cell_read-renamed e
@@ -128,18 +95,8 @@ module _ {M N : Type 0} (f : M → N) where
   by_post-renamed : (p : PostTree M) (o : Option M) → by_post (renamed_post f p) (option_map f o) ≡ option_map f (by_post p o)
   by_post-renamed (Brackets from items upto) o = refl
   by_post-renamed (Rounds from es upto) o = refl
-  by_post-renamed (Dotted dot (Plainly at Size)) o = refl
-  by_post-renamed (Dotted dot (Plainly at First)) o = refl
-  by_post-renamed (Dotted dot (Plainly at Last)) o = refl
-  by_post-renamed (Dotted dot (Plainly at Low)) o = refl
-  by_post-renamed (Dotted dot (Plainly at High)) o = refl
-  by_post-renamed (Dotted dot (Plainly at LowBound)) o = refl
   by_post-renamed (Dotted dot (Plainly at DomainOf)) o = refl
-  by_post-renamed (Dotted dot (Plainly at Id)) o = refl
-  by_post-renamed (Dotted dot (Dim at from rank_at d upto)) o = refl
-  by_post-renamed (Dotted dot (Contains at from es upto)) o = refl
-  by_post-renamed (Dotted dot (Expand at from e upto)) o = refl
-  by_post-renamed (Dotted dot (CellRead at w from upto)) o = refl
+  by_post-renamed (Dotted dot _) o = refl
 
   by_posts-renamed : (ps : Posts M) (o : Option M) → by_posts (renamed_posts f ps) (option_map f o) ≡ option_map f (by_posts ps o)
   by_posts-renamed NoPosts o = refl
@@ -147,18 +104,9 @@ module _ {M N : Type 0} (f : M → N) where
 
   mutual
     derived_from-renamed : (e : ExprTree M) → derived_from (renamed_expr f e) ≡ option_map f (derived_from e)
-    derived_from-renamed (Number at n) = refl
-    derived_from-renamed (TruthWord at b) = refl
-    derived_from-renamed (Named x) = refl
-    derived_from-renamed (LocalesWord at) = refl
-    derived_from-renamed (LocaleCount at) = refl
-    derived_from-renamed (HereWord at) = refl
     derived_from-renamed (Grouped from item upto) = derived_item-renamed item
-    derived_from-renamed (DomainLiteral from items upto) = refl
-    derived_from-renamed (Prefixed at op e) = refl
-    derived_from-renamed (Reduced at op word e) = refl
-    derived_from-renamed (Chain e rest) = refl
     derived_from-renamed (Postfixed e ps) = ap (by_posts (renamed_posts f ps)) (derived_from-renamed e) ∙ by_posts-renamed ps (derived_from e)
+    derived_from-renamed _ = refl
 
     pub derived_item-renamed : (i : ItemTree M) → derived_item (renamed_item f i) ≡ option_map f (derived_item i)
     derived_item-renamed (One e) = derived_from-renamed e

@@ -2,7 +2,7 @@
 -- One lemma for each kind of tree; so what is shown of trees with other names holds of a tree itself.
 use Rattle.std.proofs.Common.{◌≡◌, List, [], ◌∷◌, refl, ap, ◌∙◌, Some, None, Option, map}
 use Rattle.std.specs.Prelude.{option_map}
-use Rattle.dpl_language.specs.Tree.{AfterComma, Listed, Op, ExprTree, Number, TruthWord, Named, LocalesWord, LocaleCount, HereWord, Grouped, DomainLiteral, Prefixed, Reduced, Chain, Postfixed, ItemTree, One, RangeItem, Stride, NoStride, By, Links, NoLinks, Link, Posts, NoPosts, Post, PostTree, Brackets, Rounds, Dotted, MethodTree, Plainly, Dim, Contains, Expand, CellRead, Items, FirstItem, MoreItems, NoItems, NextItem, Exprs, FirstExpr, MoreExprs, NoExprs, NextExpr}
+use Rattle.dpl_language.specs.Tree.{AfterComma, Listed, Op, ExprTree, Grouped, DomainLiteral, Prefixed, Reduced, Chain, Postfixed, ItemTree, One, RangeItem, Stride, NoStride, By, Links, NoLinks, Link, Posts, NoPosts, Post, PostTree, Brackets, Rounds, Dotted, MethodTree, Plainly, Dim, Contains, Expand, CellRead, Items, FirstItem, MoreItems, NoItems, NextItem, Exprs, FirstExpr, MoreExprs, NoExprs, NextExpr}
 use Rattle.dpl_language.specs.Tree.{StartTree, StartExpr, StartTuple, MapTree, BlockMap, CyclicMap, BlockCyclicMap, MappedTree, TypeTree, ScalarType, SyncType, DomainType, ArrayType, InitTree, ItemInit, CreateInit, TypedTree, InitialTree, DeclareTree}
 use Rattle.dpl_language.specs.Tree.{ArgumentTree, TextArgument, ExprArgument, WriteTree, IntentTree, ReduceIntent, RefIntent, WithTree, VariablesTree, OneVariable, ManyVariables, TargetTree, Whole, Element, CallTree, ReadCall, ResetCall, WriteCall, StmtTree, Nothing, Declare, Assigned, Call, Write, Block, If, Headed, Loop, Body, WordBody, BlockBody, Stmts, NoStmts, Then, Else, NoElse, ElseDo, ProgramTree}
 use Rattle.dpl_language.specs.Environment.{Content, Plain, ArrayOf, CellOf}
@@ -30,18 +30,13 @@ module _ {N : Type 0} where
 
   mutual
     pub renamed_expr-same : (e : ExprTree N) → renamed_expr itself e ≡ e
-    renamed_expr-same (Number at n) = refl
-    renamed_expr-same (TruthWord at b) = refl
-    renamed_expr-same (Named x) = refl
-    renamed_expr-same (LocalesWord at) = refl
-    renamed_expr-same (LocaleCount at) = refl
-    renamed_expr-same (HereWord at) = refl
     renamed_expr-same (Grouped from item upto) = ap (λ i. Grouped from i upto) (renamed_item-same item)
     renamed_expr-same (DomainLiteral from items upto) = ap (λ is. DomainLiteral from is upto) (renamed_items-same items)
     renamed_expr-same (Prefixed at op e) = ap (Prefixed at op) (renamed_expr-same e)
     renamed_expr-same (Reduced at op word e) = ap (Reduced at op word) (renamed_expr-same e)
     renamed_expr-same (Chain e rest) = ap (λ e. Chain e (renamed_links itself rest)) (renamed_expr-same e) ∙ ap (Chain e) (renamed_links-same rest)
     renamed_expr-same (Postfixed e posts) = ap (λ e. Postfixed e (renamed_posts itself posts)) (renamed_expr-same e) ∙ ap (Postfixed e) (renamed_posts-same posts)
+    renamed_expr-same _ = refl
 
     pub renamed_item-same : (i : ItemTree N) → renamed_item itself i ≡ i
     renamed_item-same (One e) = ap One (renamed_expr-same e)

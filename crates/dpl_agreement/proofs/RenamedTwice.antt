@@ -1,7 +1,7 @@
 -- A tree whose names are replaced twice is the tree whose names are replaced once by what comes of both.
 -- One lemma for each kind of expression.
 use Rattle.std.proofs.Common.{◌≡◌, refl, ap, ◌∙◌}
-use Rattle.dpl_language.specs.Tree.{ExprTree, Number, TruthWord, Named, LocalesWord, LocaleCount, HereWord, Grouped, DomainLiteral, Prefixed, Reduced, Chain, Postfixed, ItemTree, One, RangeItem, Stride, NoStride, By, Links, NoLinks, Link, Posts, NoPosts, Post, PostTree, Brackets, Rounds, Dotted, MethodTree, Plainly, Dim, Contains, Expand, CellRead, Items, FirstItem, MoreItems, NoItems, NextItem, Exprs, FirstExpr, MoreExprs, NoExprs, NextExpr}
+use Rattle.dpl_language.specs.Tree.{ExprTree, Grouped, DomainLiteral, Prefixed, Reduced, Chain, Postfixed, ItemTree, One, RangeItem, Stride, NoStride, By, Links, NoLinks, Link, Posts, NoPosts, Post, PostTree, Brackets, Rounds, Dotted, MethodTree, Plainly, Dim, Contains, Expand, CellRead, Items, FirstItem, MoreItems, NoItems, NextItem, Exprs, FirstExpr, MoreExprs, NoExprs, NextExpr}
 use Rattle.dpl_agreement.specs.Renamed.{renamed_expr, renamed_item, renamed_stride, renamed_links, renamed_posts, renamed_post, renamed_method, renamed_items, renamed_more_items, renamed_exprs, renamed_more_exprs}
 
 both : {A B C : Type 0} (make : A → B → C) {a c : A} {b d : B} → a ≡ c → b ≡ d → make a b ≡ make c d
@@ -14,18 +14,13 @@ module _ {L M N : Type 0} (f : M → N) (g : L → M) where
 
   mutual
     pub renamed_expr-twice : (e : ExprTree L) → renamed_expr f (renamed_expr g e) ≡ renamed_expr twice e
-    renamed_expr-twice (Number at n) = refl
-    renamed_expr-twice (TruthWord at b) = refl
-    renamed_expr-twice (Named x) = refl
-    renamed_expr-twice (LocalesWord at) = refl
-    renamed_expr-twice (LocaleCount at) = refl
-    renamed_expr-twice (HereWord at) = refl
     renamed_expr-twice (Grouped from item upto) = ap (λ i. Grouped from i upto) (renamed_item-twice item)
     renamed_expr-twice (DomainLiteral from items upto) = ap (λ is. DomainLiteral from is upto) (renamed_items-twice items)
     renamed_expr-twice (Prefixed at op e) = ap (Prefixed at op) (renamed_expr-twice e)
     renamed_expr-twice (Reduced at op word e) = ap (Reduced at op word) (renamed_expr-twice e)
     renamed_expr-twice (Chain e rest) = both Chain (renamed_expr-twice e) (renamed_links-twice rest)
     renamed_expr-twice (Postfixed e posts) = both Postfixed (renamed_expr-twice e) (renamed_posts-twice posts)
+    renamed_expr-twice _ = refl
 
     pub renamed_item-twice : (i : ItemTree L) → renamed_item f (renamed_item g i) ≡ renamed_item twice i
     renamed_item-twice (One e) = ap One (renamed_expr-twice e)

@@ -3,7 +3,7 @@
 use Rattle.std.proofs.Common.{◌≡◌, Bool, true, false, List, [], ◌∷◌, map, refl, sym, ap, ◌∙◌, subst, Some, None, Option}
 use Rattle.std.specs.Prelude.{if◌then◌else◌, option_map}
 use Rattle.dpl_sets.specs.TextRanges.{TextRange}
-use Rattle.dpl_language.specs.Tree.{Size, First, Last, Low, High, LowBound, DomainOf, Id, ExprTree, Number, TruthWord, Named, LocalesWord, LocaleCount, HereWord, Grouped, DomainLiteral, Prefixed, Reduced, Chain, Postfixed, ItemTree, One, RangeItem, Posts, NoPosts, Post, PostTree, Brackets, Rounds, Dotted, Plainly, Dim, Contains, Expand, CellRead, Items, FirstItem, NoItems, NextItem}
+use Rattle.dpl_language.specs.Tree.{DomainOf, ExprTree, Named, Grouped, Postfixed, ItemTree, One, RangeItem, Posts, NoPosts, Post, PostTree, Brackets, Rounds, Dotted, Plainly, Expand, Items, FirstItem, NoItems, NextItem}
 use Rattle.dpl_language.specs.Tree.{StartTree, StartExpr, StartTuple, MapTree, BlockMap, CyclicMap, BlockCyclicMap, MappedTree, TypeTree, ScalarType, SyncType, DomainType, ArrayType, ArrayTypeTree, CreateTree, InitTree, ItemInit, CreateInit, InitialTree, DeclareTree}
 use Rattle.dpl_language.specs.Values.{Value, Int, Truth, Range, Domain, Array, Cell, Locale, AllLocales, Tuple, is_distributed}
 use Rattle.dpl_language.specs.Distributions.{Root, NoMap}
@@ -23,18 +23,9 @@ module _ {N G : Type 0} (scoping : Scoping N G) where
   by_post-reads : (p : PostTree N) (o : Option N) (x : N) → by_post p o ≡ Some x → o ≡ Some x
   by_post-reads (Brackets from items upto) o x e = e
   by_post-reads (Rounds from es upto) o x e = e
-  by_post-reads (Dotted dot (Plainly at Size)) o x e = cc
-  by_post-reads (Dotted dot (Plainly at First)) o x e = cc
-  by_post-reads (Dotted dot (Plainly at Last)) o x e = cc
-  by_post-reads (Dotted dot (Plainly at Low)) o x e = cc
-  by_post-reads (Dotted dot (Plainly at High)) o x e = cc
-  by_post-reads (Dotted dot (Plainly at LowBound)) o x e = cc
   by_post-reads (Dotted dot (Plainly at DomainOf)) o x e = e
-  by_post-reads (Dotted dot (Plainly at Id)) o x e = cc
-  by_post-reads (Dotted dot (Dim at from rank_at d upto)) o x e = cc
-  by_post-reads (Dotted dot (Contains at from es upto)) o x e = cc
   by_post-reads (Dotted dot (Expand at from i upto)) o x e = e
-  by_post-reads (Dotted dot (CellRead at w from upto)) o x e = cc
+  by_post-reads (Dotted dot _) o x e = cc
 
   by_posts-reads : (ps : Posts N) (o : Option N) (x : N) → by_posts ps o ≡ Some x → o ≡ Some x
   by_posts-reads NoPosts o x e = e
@@ -45,18 +36,10 @@ module _ {N G : Type 0} (scoping : Scoping N G) where
 
   mutual
     derived_from-reads : (e : ExprTree N) (g : G) → fits_expr scoping None e g → (x : N) → derived_from e ≡ Some x → scoping.reads x g
-    derived_from-reads (Number at n) g f x e = cc
-    derived_from-reads (TruthWord at b) g f x e = cc
     derived_from-reads (Named y) g f x e = some-reads y.name x g f e
-    derived_from-reads (LocalesWord at) g f x e = cc
-    derived_from-reads (LocaleCount at) g f x e = cc
-    derived_from-reads (HereWord at) g f x e = cc
     derived_from-reads (Grouped from item upto) g f x e = derived_item-reads item g f x e
-    derived_from-reads (DomainLiteral from items upto) g f x e = cc
-    derived_from-reads (Prefixed at op a) g f x e = cc
-    derived_from-reads (Reduced at op word a) g f x e = cc
-    derived_from-reads (Chain a rest) g f x e = cc
     derived_from-reads (Postfixed a ps) g f x e = derived_from-reads a g f.0 x (by_posts-reads ps (derived_from a) x e)
+    derived_from-reads _ g f x e = cc
 
     pub derived_item-reads : (i : ItemTree N) (g : G) → fits_item scoping None i g → (x : N) → derived_item i ≡ Some x → scoping.reads x g
     derived_item-reads (One a) g f x e = derived_from-reads a g f x e
@@ -136,13 +119,7 @@ module _ {M N G S1 S2 : Type 0} (limits : Limits) (name : N → M) (scoping : Sc
       ∙ ap (λ typed. domain_root limits first (option_map (renamed_mapped name) (type_map type)) typed (option_map (renamed_initial name) i) rs s1) b
       ∙ domain_root-alike (type_map type) (is_typed_domain type) i rs g s1 s2 r f k l)
   deal_domain-alike x type i (Int n) g h s1 s2 t1 t2 r q reads e p b f k l = q
-  deal_domain-alike x type i (Truth n) g h s1 s2 t1 t2 r q reads e p b f k l = q
-  deal_domain-alike x type i (Range n) g h s1 s2 t1 t2 r q reads e p b f k l = q
-  deal_domain-alike x type i (Array j rs) g h s1 s2 t1 t2 r q reads e p b f k l = q
-  deal_domain-alike x type i (Cell n) g h s1 s2 t1 t2 r q reads e p b f k l = q
-  deal_domain-alike x type i (Locale n) g h s1 s2 t1 t2 r q reads e p b f k l = q
-  deal_domain-alike x type i AllLocales g h s1 s2 t1 t2 r q reads e p b f k l = q
-  deal_domain-alike x type i (Tuple n) g h s1 s2 t1 t2 r q reads e p b f k l = q
+  deal_domain-alike x type i _ g h s1 s2 t1 t2 r q reads e p b f k l = q
 
   deal_array-alike : (x : N) (a : ArrayTypeTree N) (v : Value) (g h : G) (s1 : S1) (s2 : S2) (t1 : S1) (t2 : S2) → R g s1 s2 → R h t1 t2 → scoping.reads x h → second.get x t2 ≡ v → fits_items scoping a.over g
       → R h (deal_array limits first (renamed_array_type name a) (name x) v s1 t1) (deal_array limits second a x v s2 t2)

@@ -118,13 +118,8 @@ Resolves names x g = (slot_of x.text g.frames ≡ Some x.slot) × (x.text ≡ na
 
 -- `reduce=` is by the same operator, told by texts or by slots
 abbrev pub IntentResolves : Assign → Bound → Seen → Type 0
-IntentResolves Set x g = Unit {0}
-IntentResolves SetAdd x g = Unit {0}
-IntentResolves SetSubtract x g = Unit {0}
-IntentResolves SetMultiply x g = Unit {0}
-IntentResolves SetDivide x g = Unit {0}
-IntentResolves SetRemainder x g = Unit {0}
 IntentResolves SetReduce x g = paired x.text (renamed_intents text_of g.intents) ≡ intent_of x.slot g.intents
+IntentResolves _ x g = Unit {0}
 
 abbrev pub FormResolves : (ℕ → Text) → Form Bound → Seen → Type 0
 FormResolves names PlainForm g = Unit {0}

@@ -3,7 +3,7 @@
 use Rattle.std.proofs.Common.{◌≡◌, ℕ, Bool, true, false, List, [], ◌∷◌, refl, ap, Some, None, Option, map}
 use Rattle.dpl_sets.specs.TextRanges.{TextRange}
 use Rattle.dpl_language.specs.Tree.{AfterComma, ExprTree, StartTree, StartExpr, StartTuple, MapTree, BlockMap, CyclicMap, BlockCyclicMap, MappedTree, TypeTree, ScalarType, SyncType, DomainType, ArrayType, ArrayTypeTree, TypedTree, InitTree, ItemInit, CreateInit, InitialTree, DeclareTree}
-use Rattle.dpl_language.specs.Values.{Value, Int, Truth, Range, Domain, Array, Cell, Locale, AllLocales, Tuple}
+use Rattle.dpl_language.specs.Values.{Value, Domain, Array}
 use Rattle.dpl_language.specs.Environment.{Environment, Limits}
 use Rattle.dpl_language.specs.Declarations.{type_of}
 use Rattle.dpl_language.specs.Roots.{type_map, is_typed_domain, or_no_map, root_by, each_value, start_of, map_of, init_root, domain_root, deal_domain, deal_array, deal_by, dealt}
@@ -55,14 +55,7 @@ module _ {N S : Type 0} (budget l m : ℕ) (env : Environment N S) (P : S → Ty
   deal_domain-same : (type : Option (TypeTree N)) (i : Option (InitialTree N)) (x : N) (v : Value) (s after : S) → UntaskedIf UntaskedMapped (type_map type) → UntaskedIf UntaskedInitial i → P s
       → deal_domain one env type i x v s after ≡ deal_domain other env type i x v s after
   deal_domain-same type i x (Domain rs) s after u w k = ap (λ root. env.deal x root after) (domain_root-same (type_map type) (is_typed_domain type) i rs s u w k)
-  deal_domain-same type i x (Int n) s after u w k = refl
-  deal_domain-same type i x (Truth n) s after u w k = refl
-  deal_domain-same type i x (Range n) s after u w k = refl
-  deal_domain-same type i x (Array j rs) s after u w k = refl
-  deal_domain-same type i x (Cell n) s after u w k = refl
-  deal_domain-same type i x (Locale n) s after u w k = refl
-  deal_domain-same type i x AllLocales s after u w k = refl
-  deal_domain-same type i x (Tuple n) s after u w k = refl
+  deal_domain-same type i x _ s after u w k = refl
 
   deal_array-same : (a : ArrayTypeTree N) (x : N) (v : Value) (s after : S) → deal_array one env a x v s after ≡ deal_array other env a x v s after
   deal_array-same a x v s after = refl
@@ -81,25 +74,11 @@ module _ {N S : Type 0} (budget l m : ℕ) (env : Environment N S) (P : S → Ty
   -- and the state behind it is one that holds no `Locales`
   deal_domain-free : (type : Option (TypeTree N)) (i : Option (InitialTree N)) (x : N) (v : Value) (s after : S) → P after → P (deal_domain one env type i x v s after)
   deal_domain-free type i x (Domain rs) s after k = laws.deals x _ after k
-  deal_domain-free type i x (Int n) s after k = k
-  deal_domain-free type i x (Truth n) s after k = k
-  deal_domain-free type i x (Range n) s after k = k
-  deal_domain-free type i x (Array j rs) s after k = k
-  deal_domain-free type i x (Cell n) s after k = k
-  deal_domain-free type i x (Locale n) s after k = k
-  deal_domain-free type i x AllLocales s after k = k
-  deal_domain-free type i x (Tuple n) s after k = k
+  deal_domain-free type i x _ s after k = k
 
   deal_array-free : (a : ArrayTypeTree N) (x : N) (v : Value) (s after : S) → P after → P (deal_array one env a x v s after)
   deal_array-free a x (Array j rs) s after k = laws.deals x _ after k
-  deal_array-free a x (Int n) s after k = k
-  deal_array-free a x (Truth n) s after k = k
-  deal_array-free a x (Range n) s after k = k
-  deal_array-free a x (Domain rs) s after k = k
-  deal_array-free a x (Cell n) s after k = k
-  deal_array-free a x (Locale n) s after k = k
-  deal_array-free a x AllLocales s after k = k
-  deal_array-free a x (Tuple n) s after k = k
+  deal_array-free a x _ s after k = k
 
   pub dealt-free : (d : DeclareTree N) (s after : S) → P after → P (dealt one env d s after)
   dealt-free d s after k = by (type_of d.typed)

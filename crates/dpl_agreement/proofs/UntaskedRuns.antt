@@ -10,9 +10,9 @@ use Rattle.dpl_history.specs.declared.cell.CellOp.TheVariants.{Reset}
 use Rattle.dpl_history.specs.declared.cell.Reply.{Reply}
 use Rattle.dpl_history.specs.declared.cell.Reply.TheVariants.{Value as Given, Done as NoValue}
 use Rattle.dpl_sets.specs.TextRanges.{TextRange}
-use Rattle.dpl_language.specs.Tree.{Placed, AfterComma, Listed, Op, Kind, IntKind, BoolKind, Assign, Set, SetAdd, SetSubtract, SetMultiply, SetDivide, SetRemainder, SetReduce, AssignTree, ExprTree, ItemTree, One, Exprs, TypeTree, ScalarType, SyncType, DomainType, ArrayType, ArrayTypeTree, InitTree, ItemInit, CreateInit, TypedTree, InitialTree, DeclareTree, ArgumentTree, TextArgument, ExprArgument, WriteTree, WithTree, VariablesTree, OneVariable, ManyVariables, TargetTree, Whole, Element, CallTree, ReadCall, ResetCall, WriteCall}
+use Rattle.dpl_language.specs.Tree.{Placed, AfterComma, Listed, Op, Kind, IntKind, BoolKind, Assign, Set, SetReduce, AssignTree, ExprTree, ItemTree, One, Exprs, TypeTree, ScalarType, SyncType, DomainType, ArrayType, ArrayTypeTree, InitTree, ItemInit, CreateInit, TypedTree, InitialTree, DeclareTree, ArgumentTree, TextArgument, ExprArgument, WriteTree, WithTree, VariablesTree, OneVariable, ManyVariables, TargetTree, Whole, Element, CallTree, ReadCall, ResetCall, WriteCall}
 use Rattle.dpl_language.specs.Tree.{HeadWord, WhileWord, OnWord, LoopWord, ForWord, ForallWord, CoforallWord, StmtTree, Nothing, Declare, Assigned, Call, Write, Block, If, Headed, Loop, Body, WordBody, BlockBody, Stmts, NoStmts, Then, Else, NoElse, ElseDo}
-use Rattle.dpl_language.specs.Values.{Value, Int, Truth, Range, Domain, Array, Cell, Locale, AllLocales, Tuple, Index, number, index_of, ranges_in, array_domain, is_domain, cell_kind, kept_number, default, Fault, fault, Budget, ZeroDivisor, ArrayTooLarge}
+use Rattle.dpl_language.specs.Values.{Value, Int, Domain, AllLocales, Index, number, index_of, ranges_in, array_domain, is_domain, cell_kind, kept_number, default, Fault, fault, Budget, ZeroDivisor, ArrayTooLarge}
 use Rattle.dpl_language.specs.Arithmetic.{assigned, assign_divides, tested_divisor}
 use Rattle.dpl_language.specs.Ranges.{indices_in, size_in, too_large, empty_domain, loop_ranges, index_value, loop_value}
 use Rattle.dpl_language.specs.Outcome.{Deeds, Outcome, Done, Stop, Waits, Run, with_operation, with_text, with_value, naming_value}
@@ -34,13 +34,9 @@ use Rattle.dpl_agreement.proofs.UntaskedRoots.{dealt-same, dealt-free}
 -- WHAT IS STORED
 pub assigned-free : (op : Assign) (intent : Option Op) (old v : Value) → NotLocales v → NotLocales (assigned op intent old v)
 assigned-free Set intent old v h = h
-assigned-free SetAdd intent old v h = tt
-assigned-free SetSubtract intent old v h = tt
-assigned-free SetMultiply intent old v h = tt
-assigned-free SetDivide intent old v h = tt
-assigned-free SetRemainder intent old v h = tt
 assigned-free SetReduce None old v h = h
 assigned-free SetReduce (Some op) old v h = combined-free op old v
+assigned-free _ intent old v h = tt
 
 pub default-free : (k : Kind) → NotLocales (default k)
 default-free IntKind = tt
@@ -67,15 +63,8 @@ gathered-free a b (t ∷ ts) p =
 
 -- LOOPS: what one runs over is by the number of locales only where it is `Locales`
 loop_ranges-same : (l m : ℕ) (v : Value) → NotLocales v → loop_ranges l v ≡ loop_ranges m v
-loop_ranges-same l m (Int n) h = refl
-loop_ranges-same l m (Truth b) h = refl
-loop_ranges-same l m (Range r) h = refl
-loop_ranges-same l m (Domain rs) h = refl
-loop_ranges-same l m (Array k rs) h = refl
-loop_ranges-same l m (Cell k) h = refl
-loop_ranges-same l m (Locale n) h = refl
 loop_ranges-same l m AllLocales h = absurd h
-loop_ranges-same l m (Tuple is) h = refl
+loop_ranges-same l m _ h = refl
 
 index_value-free : (t : Index) → NotLocales (index_value t)
 index_value-free [] = tt
@@ -83,15 +72,8 @@ index_value-free (i ∷ []) = tt
 index_value-free (i ∷ j ∷ is) = tt
 
 loop_value-free : (over : Value) (t : Index) → NotLocales (loop_value over t)
-loop_value-free (Int n) t = index_value-free t
-loop_value-free (Truth b) t = index_value-free t
-loop_value-free (Range r) t = index_value-free t
-loop_value-free (Domain rs) t = index_value-free t
-loop_value-free (Array k rs) t = index_value-free t
-loop_value-free (Cell k) t = index_value-free t
-loop_value-free (Locale n) t = index_value-free t
 loop_value-free AllLocales t = tt
-loop_value-free (Tuple is) t = index_value-free t
+loop_value-free _ t = index_value-free t
 
 -- PARTS
 abbrev UntaskedEach : {A : Type 0} → (A → Type 0) → List A → Type 0

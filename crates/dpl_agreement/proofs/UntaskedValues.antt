@@ -6,9 +6,9 @@ use Rattle.dpl_syntax.specs.declared.place.Place.{Place}
 use Rattle.dpl_history.specs.declared.cell.CellOp.{CellOp}
 use Rattle.dpl_sets.specs.TextRanges.{TextRange}
 use Rattle.dpl_sets.specs.TextDomains.{text_expanded}
-use Rattle.dpl_language.specs.Tree.{Placed, Op, Sum, Product, AllOf, AnyOf, BitAnd, BitOr, BitXor, Least, Greatest, Assign, Prefix, Minus, Not, Infix, Add, Subtract, Multiply, Divide, Remainder, Less, LessEqual, Greater, GreaterEqual, Equal, NotEqual, And, Or, Word, Size, First, Last, Low, High, LowBound, DomainOf, Id}
+use Rattle.dpl_language.specs.Tree.{Placed, Op, Sum, Assign, Prefix, Minus, Not, Infix, Add, Word, First, Last, Low, High, LowBound}
 use Rattle.dpl_language.specs.Tree.{ExprTree, Number, TruthWord, Named, LocalesWord, LocaleCount, HereWord, Grouped, DomainLiteral, Prefixed, Reduced, Chain, Postfixed, ItemTree, One, RangeItem, Stride, NoStride, By, Links, NoLinks, Link, Posts, NoPosts, Post, PostTree, Brackets, Rounds, Dotted, MethodTree, Plainly, Dim, Contains, Expand, CellRead, Items, FirstItem, MoreItems, NoItems, NextItem, Exprs, FirstExpr, MoreExprs, NoExprs, NextExpr}
-use Rattle.dpl_language.specs.Values.{Value, Int, Truth, Range, Domain, Array, Cell, Locale, AllLocales, Tuple, Index, number, ranges_in, all_ranges, index_of, array_domain, Fault, fault, Budget, PastLimit}
+use Rattle.dpl_language.specs.Values.{Value, Range, Domain, Array, AllLocales, Index, number, ranges_in, all_ranges, index_of, array_domain, Fault, fault, Budget, PastLimit}
 use Rattle.dpl_language.specs.Arithmetic.{prefix_of, infix_of, divides, tested_divisor, decides, combined, unit_of}
 use Rattle.dpl_language.specs.Ranges.{indices_in, size_in, too_many, bounded, strided_by, sized, bounds_past_limit, members_of_first, first_of, last_of, least_of, greatest_of, end_of, least_in, tuple_or_end, low_of, method_of}
 use Rattle.dpl_language.specs.Distributions.{Root}
@@ -53,18 +53,7 @@ pub record HoldsNoLocales {N S : Type 0} (env : Environment N S) (P : S → Type
 -- WHAT OPERATORS AND METHODS MAKE
 infix_of-free : (op : Infix) (v w : Value) → NotLocales (infix_of op v w)
 infix_of-free Add v w = tt
-infix_of-free Subtract v w = tt
-infix_of-free Multiply v w = tt
-infix_of-free Divide v w = tt
-infix_of-free Remainder v w = tt
-infix_of-free Less v w = tt
-infix_of-free LessEqual v w = tt
-infix_of-free Greater v w = tt
-infix_of-free GreaterEqual v w = tt
-infix_of-free Equal v w = tt
-infix_of-free NotEqual v w = tt
-infix_of-free And v w = tt
-infix_of-free Or v w = tt
+infix_of-free _ v w = tt
 
 prefix_of-free : (op : Prefix) (v : Value) → NotLocales (prefix_of op v)
 prefix_of-free Minus v = tt
@@ -72,25 +61,11 @@ prefix_of-free Not v = tt
 
 pub combined-free : (op : Op) (v w : Value) → NotLocales (combined op v w)
 combined-free Sum v w = tt
-combined-free Product v w = tt
-combined-free AllOf v w = tt
-combined-free AnyOf v w = tt
-combined-free BitAnd v w = tt
-combined-free BitOr v w = tt
-combined-free BitXor v w = tt
-combined-free Least v w = tt
-combined-free Greatest v w = tt
+combined-free _ v w = tt
 
 unit_of-free : (op : Op) → NotLocales (unit_of op)
 unit_of-free Sum = tt
-unit_of-free Product = tt
-unit_of-free AllOf = tt
-unit_of-free AnyOf = tt
-unit_of-free BitAnd = tt
-unit_of-free BitOr = tt
-unit_of-free BitXor = tt
-unit_of-free Least = tt
-unit_of-free Greatest = tt
+unit_of-free _ = tt
 
 -- a fault in the place of a value, where a test says so
 pub tested-free : (b : Bool) (f : Fault) (v : Value) → NotLocales v → IfOk {E = Fault} (if b then Err f else Ok v) NotLocales
@@ -106,25 +81,18 @@ tuple_or_end-free at None = tt
 tuple_or_end-free at (Some t) = tt
 
 low_of-free : (at : Place) (v : Value) → IfOk (low_of at v) NotLocales
-low_of-free at (Int n) = tt
-low_of-free at (Truth b) = tt
 low_of-free at (Range r) = end_of-free at least_of (members_of_first (r ∷ []))
 low_of-free at (Domain rs) = tuple_or_end-free at (least_in rs)
 low_of-free at (Array k rs) = end_of-free at least_of (members_of_first rs)
-low_of-free at (Cell k) = tt
-low_of-free at (Locale n) = tt
-low_of-free at AllLocales = tt
-low_of-free at (Tuple t) = tt
+low_of-free at _ = tt
 
 method_of-free : (w : Word) (at : Place) (v : Value) → IfOk (method_of w at v) NotLocales
-method_of-free Size at v = tt
 method_of-free First at v = end_of-free at first_of (members_of_first (ranges_in v))
 method_of-free Last at v = end_of-free at last_of (members_of_first (ranges_in v))
 method_of-free Low at v = low_of-free at v
 method_of-free High at v = end_of-free at greatest_of (members_of_first (ranges_in v))
 method_of-free LowBound at v = low_of-free at v
-method_of-free DomainOf at v = tt
-method_of-free Id at v = tt
+method_of-free _ at v = tt
 
 pub found-free : (at : Place) (o : Option Value) → IfSome o NotLocales → IfOk (found at o) NotLocales
 found-free at None h = tt
@@ -188,15 +156,9 @@ module _ {N S : Type 0} (budget l m : ℕ) (env : Environment N S) (P : S → Ty
 
   -- only of `Locales` itself brackets give a locale, by how many there are
   bracketed-free : (b : Base N) (vs : List Value) (v : Value) (s : S) → P s → NotLocales v → SameFree (bracketed one env b vs v s) (bracketed other env b vs v s)
-  bracketed-free b vs (Int n) s k h = (refl, tt)
-  bracketed-free b vs (Truth c) s k h = (refl, tt)
-  bracketed-free b vs (Range r) s k h = (refl, tt)
-  bracketed-free b vs (Domain rs) s k h = (refl, tt)
   bracketed-free b vs (Array kind rs) s k h = element_of-free b (index_of vs) s k
-  bracketed-free b vs (Cell kind) s k h = (refl, tt)
-  bracketed-free b vs (Locale n) s k h = (refl, tt)
   bracketed-free b vs AllLocales s k h = absurd h
-  bracketed-free b vs (Tuple is) s k h = (refl, tt)
+  bracketed-free b vs _ s k h = (refl, tt)
 
   mutual
     pub value_of-free : (e : ExprTree N) (t : Option Index) (s : S) → UntaskedExpr e → P s → SameFree (value_of one env e t s) (value_of other env e t s)

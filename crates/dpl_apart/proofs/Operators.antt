@@ -101,15 +101,9 @@ int-operand Greatest n ints f = ap (λ n. Int n) (greatest-of-least n f)
 
 -- and a truth value of the two others
 pub truth-operand : (op : Op) (b : Bool) → is_logical op ≡ true → IsOperand op (Truth b)
-truth-operand Sum b truths = absurd cc
-truth-operand Product b truths = absurd cc
 truth-operand AllOf b truths = ap (λ b. Truth b) (and-true b)
 truth-operand AnyOf b truths = ap (λ b. Truth b) (or-false b)
-truth-operand BitAnd b truths = absurd cc
-truth-operand BitOr b truths = absurd cc
-truth-operand BitXor b truths = absurd cc
-truth-operand Least b truths = absurd cc
-truth-operand Greatest b truths = absurd cc
+truth-operand _ b truths = absurd cc
 
 unit-operand : (op : Op) → IsOperand op (unit_of op)
 unit-operand Sum = int-operand Sum (pos 0) refl (record { sfits = omega arith })

@@ -1,6 +1,6 @@
 -- So do the words of reduce variables, of one and of several.
 use Rattle.std.proofs.Common.{◌≡◌, ◌⊎◌, inl, inr, ℤ, pos, Bool, true, false, List, [], ◌∷◌, FitsSigned, w64, refl, sym, ap, ◌∙◌, subst}
-use Rattle.dpl_language.specs.Tree.{Op, Sum, Product, AllOf, AnyOf, BitAnd, BitOr, BitXor, Least, Greatest}
+use Rattle.dpl_language.specs.Tree.{Op, AllOf, AnyOf}
 use Rattle.dpl_language.specs.Values.{Value, Int, Truth, kept_number}
 use Rattle.dpl_language.specs.Arithmetic.{combined, unit_of}
 use Rattle.dpl_words.specs.Words.{is_true, is_logical}
@@ -13,15 +13,9 @@ truth-kept false = refl
 
 -- what an operator gives is the value of the word that it is kept as
 pub combined-kept : (op : Op) (u v : Value) → value_of_word op (kept_number (combined op u v)) ≡ combined op u v
-combined-kept Sum u v = refl
-combined-kept Product u v = refl
 combined-kept AllOf u v = truth-kept _
 combined-kept AnyOf u v = truth-kept _
-combined-kept BitAnd u v = refl
-combined-kept BitOr u v = refl
-combined-kept BitXor u v = refl
-combined-kept Least u v = refl
-combined-kept Greatest u v = refl
+combined-kept _ u v = refl
 
 unit-kept : (op : Op) → value_of_word op (unit_word op) ≡ unit_of op
 unit-kept op = ap (λ v. value_of_word op (kept_number v)) (sym (operators op).one) ∙ combined-kept op (unit_of op) (unit_of op) ∙ (operators op).one

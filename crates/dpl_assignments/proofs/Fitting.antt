@@ -35,14 +35,9 @@ module _ (at first : Place) (u : ValueType) where
   -- ---- `reduce=`
   reduce-takes : (t : ValueType) → Takes Set t u → IsReducible SetReduce (Some t) → Takes SetReduce t u
   reduce-takes (Scalar l) h r = (h.0, refl)
-  reduce-takes (Range strided) h r = h
   reduce-takes (Domain rank strided) h r = absurd (let f : false ≡ true = r in cc)
   reduce-takes (Array l over) h r = absurd (let f : false ≡ true = r in cc)
-  reduce-takes (Promoted l over) h r = h
-  reduce-takes (Tuple rank) h r = h
-  reduce-takes Locale h r = h
-  reduce-takes AllLocales h r = h
-  reduce-takes (Cell l) h r = h
+  reduce-takes _ h r = h
 
   -- ---- the operators of arithmetic, which all take the same
   module _ (op : Assign) (element : (l : Kind) → element_by l op ≡ same_kind IntKind l) (variable : (l : Kind) → scalar_by l op ≡ same_kind IntKind l) where
@@ -50,16 +45,13 @@ module _ (at first : Place) (u : ValueType) where
     change-takes (Scalar l) k e p h =
         let both = both-hold (same_kind IntKind l) (is_scalar l u) (owed-holds (same_kind IntKind l && is_scalar l u) at WrongType h) in
         (both.1, variable l ∙ both.0)
-    change-takes (Range strided) k e p h = absurd cc
-    change-takes (Domain rank strided) k e p h = absurd cc
     change-takes (Array l over) k e p h =
         let both = both-hold (same_kind IntKind l) (fits_array l over u) (owed-holds (same_kind IntKind l && fits_array l over u) at WrongType h) in
         (both.1, element l ∙ both.0)
     change-takes (Promoted l over) k e p h = absurd (let f : true ≡ false = p in cc)
-    change-takes (Tuple rank) k e p h = absurd cc
-    change-takes Locale k e p h = absurd cc
     change-takes AllLocales k e p h = absurd (none-some k e)
     change-takes (Cell l) k e p h = absurd (none-some k e)
+    change-takes _ k e p h = absurd cc
 
 -- ---- an assignment to a name
 pub fitting-takes : (sign : AssignTree) (op : Assign) (may : Bool) (first : Place) (t u : ValueType) (k : VariableKind) → value_kind t ≡ Some k → is_promoted_type t ≡ false → IsReducible op (Some t)
@@ -81,9 +73,5 @@ arithmetic-takes at l u h =
 
 pub element-takes : (sign : AssignTree) (op : Assign) (first : Place) (l : Kind) (u : ValueType) → fitting sign op false (side_of first u) (Scalar l) ≡ [] → (is_scalar l u ≡ true) × (element_by l op ≡ true)
 element-takes sign Set first l u h = (owed-holds (is_scalar l u) first WrongType h, refl)
-element-takes sign SetAdd first l u h = arithmetic-takes sign.at l u h
-element-takes sign SetSubtract first l u h = arithmetic-takes sign.at l u h
-element-takes sign SetMultiply first l u h = arithmetic-takes sign.at l u h
-element-takes sign SetDivide first l u h = arithmetic-takes sign.at l u h
-element-takes sign SetRemainder first l u h = arithmetic-takes sign.at l u h
 element-takes sign SetReduce first l u h = absurd cc
+element-takes sign _ first l u h = arithmetic-takes sign.at l u h

@@ -9,7 +9,7 @@ use Rattle.dpl_language.specs.Names.{Text}
 use Rattle.dpl_language.specs.Phrases.{item_read}
 use Rattle.dpl_tree.specs.declared.statement.Element.{Element as ElementNode}
 use Rattle.dpl_tree.specs.View.{name_view, exprs_view}
-use Rattle.dpl_rules.specs.Types.{ValueType, Scalar, Range, Domain, Array, Promoted, Tuple, Locale, AllLocales, Cell, is_scalar}
+use Rattle.dpl_rules.specs.Types.{ValueType, Scalar, Cell, is_scalar}
 use Rattle.dpl_rules.specs.Verdicts.{type_by, broken_by, with_type}
 use Rattle.dpl_rules.specs.Breaches.{least_from}
 use Rattle.dpl_rules.specs.Sights.{Declared, Scopes, lookup, type_declared}
@@ -50,15 +50,8 @@ single (Some d) t e h = ap is_promoted_by (sym e) ∙ (h d refl).single
 
 -- a name whose type has a kind is no cell
 plain-kind : (at : Place) (t : ValueType) (k : VariableKind) → value_kind t ≡ Some k → type_by (plain_name at t) ≡ Some t
-plain-kind at (Scalar l) k e = refl
-plain-kind at (Range strided) k e = refl
-plain-kind at (Domain rank strided) k e = refl
-plain-kind at (Array l over) k e = refl
-plain-kind at (Promoted l over) k e = refl
-plain-kind at (Tuple rank) k e = refl
-plain-kind at Locale k e = refl
-plain-kind at AllLocales k e = refl
 plain-kind at (Cell l) k e = absurd (none-some k e)
+plain-kind at _ k e = refl
 
 named-kind : (at : Place) (o : Option Declared) (t : ValueType) (k : VariableKind) → type_declared o ≡ Some t → value_kind t ≡ Some k → type_by (name_verdict at o) ≡ Some t
 named-kind at None t k e h = absurd (none-some t e)

@@ -25,11 +25,8 @@ posts_read_many (x ∷ y ∷ xs) h = refl
 -- ---- simple items are no cell reads
 module _ (ss : Scopes) where
   method-unread : (m : MethodTree Text) → IsSimpleMethod (IsFound ss) m → method_read m ≡ None
-  method-unread (Plainly at w) h = refl
-  method-unread (Dim at from rank_at d upto) h = refl
-  method-unread (Contains at from es upto) h = refl
-  method-unread (Expand at from e upto) h = refl
   method-unread (CellRead at w from upto) h = absurd h
+  method-unread _ h = refl
 
   post-unread : (p : PostTree Text) → IsSimplePost (IsFound ss) p → post_read p ≡ None
   post-unread (Brackets from items upto) h = refl
@@ -46,18 +43,8 @@ module _ (ss : Scopes) where
   by-none (Some x) = refl
 
   expr-unread : (e : ExprTree Text) → IsSimple (IsFound ss) e → cell_read e ≡ None
-  expr-unread (Number at n) h = refl
-  expr-unread (TruthWord at b) h = refl
-  expr-unread (Named x) h = refl
-  expr-unread (LocalesWord at) h = refl
-  expr-unread (LocaleCount at) h = refl
-  expr-unread (HereWord at) h = refl
-  expr-unread (Grouped from item upto) h = refl
-  expr-unread (DomainLiteral from items upto) h = refl
-  expr-unread (Prefixed at op e) h = refl
-  expr-unread (Reduced at op word e) h = refl
-  expr-unread (Chain e rest) h = refl
   expr-unread (Postfixed e posts) h = ap (read_by (bare_name e)) (posts-unread posts h.1) ∙ by-none (bare_name e)
+  expr-unread _ h = refl
 
   pub item-unread : (i : ItemTree Text) → IsSimpleItem (IsFound ss) i → item_read i ≡ None
   item-unread (One e) h = expr-unread e h

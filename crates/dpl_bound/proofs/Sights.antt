@@ -5,7 +5,7 @@ use Rattle.std.specs.Prelude.{bytes_eq, if◌then◌else◌}
 use Rattle.std.specs.Option.{option_or}
 use Rattle.dpl_language.specs.Names.{Text}
 use Rattle.dpl_agreement.specs.Scopes.{PlainForm}
-use Rattle.dpl_rules.specs.Types.{Origin, ValueType, Scalar, Range, Domain, Array, Promoted, Tuple, Locale, AllLocales, Cell}
+use Rattle.dpl_rules.specs.Types.{Origin, ValueType}
 use Rattle.dpl_rules.specs.Sights.{Declared, Scope, Scopes, find, lookup, add}
 use Rattle.dpl_scopes.specs.Slots.{count_in, next_slot_in}
 use Rattle.dpl_memory.specs.Memory.{VariableKind}
@@ -20,15 +20,7 @@ next_open s ss = omega arith
 -- an empty scope has no domain in sight
 over_by-empty : (self : Origin) (t : Option ValueType) → over_by ([] ∷ []) self t ≡ over_by [] self t
 over_by-empty self None = refl
-over_by-empty self (Some (Scalar k)) = refl
-over_by-empty self (Some (Range strided)) = refl
-over_by-empty self (Some (Domain rank strided)) = refl
-over_by-empty self (Some (Array k over)) = refl
-over_by-empty self (Some (Promoted k over)) = refl
-over_by-empty self (Some (Tuple rank)) = refl
-over_by-empty self (Some Locale) = refl
-over_by-empty self (Some AllLocales) = refl
-over_by-empty self (Some (Cell k)) = refl
+over_by-empty self _ = refl
 
 pub sight_of-next : (d : Declared) (ss : Scopes) → sight_of (add d ss) ≡ bind (sighted_at ss d (next_slot_in ss)) (sight_of ss)
 sight_of-next d [] = ap (λ o. (record (sighted (bound_at d 1) PlainForm) { over = o } ∷ []) ∷ []) (over_by-empty d.origin d.type)

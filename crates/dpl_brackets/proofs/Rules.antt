@@ -7,7 +7,7 @@ use Rattle.dpl_syntax.specs.declared.place.Place.{Place}
 use Rattle.dpl_syntax.specs.declared.refusal.Breach.{Breach}
 use Rattle.dpl_syntax.specs.declared.refusal.Code.{Code}
 use Rattle.dpl_syntax.specs.declared.refusal.Code.TheVariants.{WrongType, WrongRank}
-use Rattle.dpl_rules.specs.Types.{ValueType, Scalar, Range, Domain, Array, Promoted, Tuple, Locale, AllLocales, Cell, has, is_int, is_range, is_plain_range, tuple_of}
+use Rattle.dpl_rules.specs.Types.{ValueType, Range, Tuple, has, is_int, is_range, is_plain_range, tuple_of}
 use Rattle.dpl_rules.specs.Verdicts.{Part, type_by, broken_by, judged, all_known, owed, breach, owed_type, wanted, each_wanted}
 use Rattle.dpl_rules.specs.Operators.{single_breaches, index_breaches, slice_breaches, ranges_breaches}
 use Rattle.dpl_rules.specs.Breaches.{least_from}
@@ -60,16 +60,8 @@ all-wanted test (p ∷ ps) k e =
     ap (λ b. b && all_are test ps) (known-wanted test p.at p.type known.0 none.0) ∙ all-wanted test ps known.1 none.1
 
 plain-range : (o : Option ValueType) → has is_plain_range o ≡ true → has is_range o ≡ true
-plain-range None e = absurd (let f : false ≡ true = e in cc)
-plain-range (Some (Scalar k)) e = absurd (let f : false ≡ true = e in cc)
 plain-range (Some (Range strided)) e = refl
-plain-range (Some (Domain rank strided)) e = absurd (let f : false ≡ true = e in cc)
-plain-range (Some (Array k over)) e = absurd (let f : false ≡ true = e in cc)
-plain-range (Some (Promoted k over)) e = absurd (let f : false ≡ true = e in cc)
-plain-range (Some (Tuple rank)) e = absurd (let f : false ≡ true = e in cc)
-plain-range (Some Locale) e = absurd (let f : false ≡ true = e in cc)
-plain-range (Some AllLocales) e = absurd (let f : false ≡ true = e in cc)
-plain-range (Some (Cell k)) e = absurd (let f : false ≡ true = e in cc)
+plain-range _ e = absurd (let f : false ≡ true = e in cc)
 
 plain-ranges : (ps : List Part) → all_are is_plain_range ps ≡ true → all_are is_range ps ≡ true
 plain-ranges [] e = refl
@@ -131,15 +123,8 @@ ranges-few from ps e = below_four (length ps) (owed-true (nat_lt (length ps) 4) 
 
 -- ---- what a range contains: one int, where no tuple has one number alone
 tuple_is : (t : ValueType) (n : ℕ) → tuple_of t ≡ Some n → t ≡ Tuple n
-tuple_is (Scalar k) n e = absurd (let f : None ≡ Some n = e in cc)
-tuple_is (Range s) n e = absurd (let f : None ≡ Some n = e in cc)
-tuple_is (Domain rank s) n e = absurd (let f : None ≡ Some n = e in cc)
-tuple_is (Array k over) n e = absurd (let f : None ≡ Some n = e in cc)
-tuple_is (Promoted k over) n e = absurd (let f : None ≡ Some n = e in cc)
 tuple_is (Tuple m) n e = let f : Some m ≡ Some n = e in cc
-tuple_is Locale n e = absurd (let f : None ≡ Some n = e in cc)
-tuple_is AllLocales n e = absurd (let f : None ≡ Some n = e in cc)
-tuple_is (Cell k) n e = absurd (let f : None ≡ Some n = e in cc)
+tuple_is _ n e = absurd (let f : None ≡ Some n = e in cc)
 
 pub single-int : (at : Place) (p : Part) → are_none (index_breaches at 1 (p ∷ [])) ≡ true → is_some p.type ≡ true → ((n : ℕ) → p.type ≡ Some (Tuple n) → is_tuple_rank n ≡ true) → has is_int p.type ≡ true
 single-int at p e k none = by p.type refl e k

@@ -8,7 +8,7 @@ use Rattle.dpl_syntax.specs.declared.refusal.Code.TheVariants.{WrongType}
 use Rattle.dpl_language.specs.Tree.{Kind, IntKind, BoolKind, ItemTree, Items}
 use Rattle.dpl_language.specs.Names.{Text}
 use Rattle.dpl_language.specs.Phrases.{item_read}
-use Rattle.dpl_rules.specs.Types.{ValueType, Scalar, Range, Domain, Array, Promoted, Tuple, Locale, AllLocales, Cell, same_kind, is_scalar, is_domain, domain_of}
+use Rattle.dpl_rules.specs.Types.{ValueType, Scalar, Domain, same_kind, is_scalar, is_domain, domain_of}
 use Rattle.dpl_rules.specs.Verdicts.{Part, Verdict, type_by, broken_by, with_type, all_known, owed_type}
 use Rattle.dpl_rules.specs.Sights.{Scopes}
 use Rattle.dpl_rules.specs.Operators.{any_strided, ranges_breaches, ranges_verdict, domain_or, over_verdict}
@@ -108,14 +108,7 @@ same_kind-is BoolKind BoolKind h = refl
 
 pub is_scalar-is : (k : Kind) (t : ValueType) → is_scalar k t ≡ true → t ≡ Scalar k
 is_scalar-is k (Scalar l) h = ap Scalar (same_kind-is k l h)
-is_scalar-is k (Range strided) h = absurd cc
-is_scalar-is k (Domain rank strided) h = absurd cc
-is_scalar-is k (Array l over) h = absurd cc
-is_scalar-is k (Promoted l over) h = absurd cc
-is_scalar-is k (Tuple rank) h = absurd cc
-is_scalar-is k Locale h = absurd cc
-is_scalar-is k AllLocales h = absurd cc
-is_scalar-is k (Cell l) h = absurd cc
+is_scalar-is k _ h = absurd cc
 
 -- a domain that has a node is of a rank, and its names have a kind
 pub kind-chosen : (b : Bool) (k : VariableKind) → b ≡ true → kind_if b k ≡ Some k
@@ -130,12 +123,5 @@ pub record IsRanked (t : ValueType) : Type 0 where
   pub of_kind : value_kind t ≡ Some DomainKind
 
 pub domain-ranked : (t : ValueType) → is_domain t ≡ true → has_node t ≡ true → IsRanked t
-domain-ranked (Scalar k) d n = absurd (let f : false ≡ true = d in cc)
-domain-ranked (Range strided) d n = absurd (let f : false ≡ true = d in cc)
 domain-ranked (Domain rank strided) d n = record { rank = rank; strided = strided; is = refl; holds = n; of_kind = kind-chosen (is_rank rank) DomainKind n }
-domain-ranked (Array k over) d n = absurd (let f : false ≡ true = d in cc)
-domain-ranked (Promoted k over) d n = absurd (let f : false ≡ true = d in cc)
-domain-ranked (Tuple rank) d n = absurd (let f : false ≡ true = d in cc)
-domain-ranked Locale d n = absurd (let f : false ≡ true = d in cc)
-domain-ranked AllLocales d n = absurd (let f : false ≡ true = d in cc)
-domain-ranked (Cell k) d n = absurd (let f : false ≡ true = d in cc)
+domain-ranked _ d n = absurd (let f : false ≡ true = d in cc)

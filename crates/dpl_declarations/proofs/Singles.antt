@@ -9,7 +9,7 @@ use Rattle.dpl_syntax.specs.declared.refusal.Breach.{Breach}
 use Rattle.dpl_syntax.specs.declared.refusal.Code.TheVariants.{WrongType, WrongRank}
 use Rattle.dpl_language.specs.Tree.{Kind, IntKind, BoolKind, MappedTree, DomainTypeTree, TypeTree, ScalarType, DomainType, InitTree, ItemInit, CreateInit, InitialTree, DeclareTree, StmtTree}
 use Rattle.dpl_language.specs.Names.{Text}
-use Rattle.dpl_rules.specs.Types.{ValueType, Scalar, Range, Domain, Array, Promoted, Tuple, Locale, AllLocales, Cell, has, is_any_scalar, domain_of, is_domain, is_domain_of}
+use Rattle.dpl_rules.specs.Types.{ValueType, Scalar, Range, Domain, Locale, has, is_any_scalar, domain_of, is_domain, is_domain_of}
 use Rattle.dpl_rules.specs.Verdicts.{breach, owed, where_given, wanted}
 use Rattle.dpl_rules.specs.Breaches.{least_from}
 use Rattle.dpl_rules.specs.Sights.{Scopes}
@@ -67,23 +67,12 @@ kept-begins : (config : Option Place) (p : Placing) (t : ValueType) → is_kept 
 kept-begins config p (Scalar k) kept node set e = e
 kept-begins config p (Range strided) kept node set e = (unset config (Range strided) refl set, e)
 kept-begins config p (Domain rank strided) kept node set e = unset config (Domain rank strided) refl set
-kept-begins config p (Array k over) kept node set e = absurd (let f : false ≡ true = kept in cc)
-kept-begins config p (Promoted k over) kept node set e = absurd (let f : false ≡ true = kept in cc)
-kept-begins config p (Tuple rank) kept node set e = absurd (let f : false ≡ true = kept in cc)
 kept-begins config p Locale kept node set e = absurd (let f : false ≡ true = node in cc)
-kept-begins config p AllLocales kept node set e = absurd (let f : false ≡ true = kept in cc)
-kept-begins config p (Cell k) kept node set e = absurd (let f : false ≡ true = kept in cc)
+kept-begins config p _ kept node set e = absurd (let f : false ≡ true = kept in cc)
 
 domain-begins : (config : Option Place) (p : Placing) (t : ValueType) → is_domain t ≡ true → IsSet config t → Begins config p t
-domain-begins config p (Scalar k) d set = absurd (let f : false ≡ true = d in cc)
-domain-begins config p (Range strided) d set = absurd (let f : false ≡ true = d in cc)
 domain-begins config p (Domain rank strided) d set = unset config (Domain rank strided) refl set
-domain-begins config p (Array k over) d set = absurd (let f : false ≡ true = d in cc)
-domain-begins config p (Promoted k over) d set = absurd (let f : false ≡ true = d in cc)
-domain-begins config p (Tuple rank) d set = absurd (let f : false ≡ true = d in cc)
-domain-begins config p Locale d set = absurd (let f : false ≡ true = d in cc)
-domain-begins config p AllLocales d set = absurd (let f : false ≡ true = d in cc)
-domain-begins config p (Cell k) d set = absurd (let f : false ≡ true = d in cc)
+domain-begins config p _ d set = absurd (let f : false ≡ true = d in cc)
 
 untyped-begins : (ss : Scopes) (i : InitTree Text) (config : Option Place) (p : Placing) (t : ValueType) → IsPlacing ss i p → IsKept i t → has_node t ≡ true → IsSet config t → Begins config p t
 untyped-begins ss (ItemInit item None) config p t placing kept node set = kept-begins config p t kept node set (placing.2 ∙ ap (λ m. placing_or m Derived) placing.1)
@@ -96,12 +85,7 @@ begins-named config p (Scalar IntKind) b node = (PlainKind IntLeaf, refl, refl)
 begins-named config p (Scalar BoolKind) b node = (PlainKind TruthLeaf, refl, refl)
 begins-named config p (Range strided) b node = (PlainKind RangeLeaf, refl, refl)
 begins-named config p (Domain rank strided) b node = (DomainKind, kind-chosen (is_rank rank) DomainKind node, refl)
-begins-named config p (Array k over) b node = absurd b
-begins-named config p (Promoted k over) b node = absurd b
-begins-named config p (Tuple rank) b node = absurd b
-begins-named config p Locale b node = absurd b
-begins-named config p AllLocales b node = absurd b
-begins-named config p (Cell k) b node = absurd b
+begins-named config p _ b node = absurd b
 
 module _ (ss : Scopes) (d : DeclareTree Text) where
   abbrev slot : ℕ

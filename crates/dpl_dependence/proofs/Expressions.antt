@@ -5,9 +5,9 @@ use Rattle.dpl_language.specs.Values.{Index}
 use Rattle.dpl_language.specs.Phrases.{base_of}
 use Rattle.dpl_memory.specs.Memory.{Variable}
 use Rattle.dpl_agreement.specs.Scopes.{items_in, fits_expr, fits_item, fits_items, fits_exprs, fits_element}
-use Rattle.dpl_nodes.specs.declared.tree.RangeExpr.{RangeExpr, Local as RangeLocal, Between', Slice', Dimension'}
-use Rattle.dpl_nodes.specs.declared.tree.IndexExpr.{IndexExpr, Line', Plane', Space', Tuple}
-use Rattle.dpl_nodes.specs.declared.tree.DomainExpr.{DomainExpr, Local as DomainLocal, OfArray, Literal', Slice' as DomainSlice', Expanded', Created'}
+use Rattle.dpl_nodes.specs.declared.tree.RangeExpr.{RangeExpr, Local as RangeLocal}
+use Rattle.dpl_nodes.specs.declared.tree.IndexExpr.{IndexExpr, Line'}
+use Rattle.dpl_nodes.specs.declared.tree.DomainExpr.{DomainExpr, Local as DomainLocal}
 use Rattle.dpl_nodes.specs.Typed.{range_item, range_view, index_items, index_exprs, domain_view}
 use Rattle.dpl_turns.specs.Bodies.{OwnNames, turn_scoping}
 use Rattle.dpl_apart.specs.Memories.{Changes}
@@ -15,35 +15,23 @@ use Rattle.dpl_apart.specs.Memories.{Changes}
 -- the same index between square brackets and between round ones
 pub index-same : (x : IndexExpr) → items_in (index_exprs x) ≡ index_items x
 index-same (Line' p a) = refl
-index-same (Plane' p a q b) = refl
-index-same (Space' p a q b r c) = refl
-index-same (Tuple slot) = refl
+index-same _ = refl
 
 module _ (h : Changes) (own : OwnNames) (t : Index) where
   pub index-exprs_fit : (x : IndexExpr) → fits_items (turn_scoping h own t) (index_items x) tt → fits_exprs (turn_scoping h own t) (index_exprs x) tt
   index-exprs_fit (Line' p a) fit = fit
-  index-exprs_fit (Plane' p a q b) fit = fit
-  index-exprs_fit (Space' p a q b r c) fit = fit
-  index-exprs_fit (Tuple slot) fit = fit
+  index-exprs_fit _ fit = fit
 
   -- a range as an item and as an expression
   pub range-fits : (r : RangeExpr) → fits_item (turn_scoping h own t) None (range_item r) tt → fits_expr (turn_scoping h own t) None (range_view r) tt
   range-fits (RangeLocal slot) fit = fit
-  range-fits (Between' p low at dots q high stride) fit = fit
-  range-fits (Slice' p r q cut) fit = fit
-  range-fits (Dimension' p d n) fit = fit
+  range-fits _ fit = fit
 
   -- neither a range nor a domain is an array, and so nothing is asked of what it is cut by
   pub range-base_fits : (r : RangeExpr) (items : Items Variable) → fits_element (turn_scoping h own t) (base_of (range_view r)) items tt
   range-base_fits (RangeLocal slot) items = tt
-  range-base_fits (Between' p low at dots q high stride) items = tt
-  range-base_fits (Slice' p r q cut) items = tt
-  range-base_fits (Dimension' p d n) items = tt
+  range-base_fits _ items = tt
 
   pub domain-base_fits : (d : DomainExpr) (items : Items Variable) → fits_element (turn_scoping h own t) (base_of (domain_view d)) items tt
   domain-base_fits (DomainLocal slot) items = tt
-  domain-base_fits (OfArray k slot) items = tt
-  domain-base_fits (Literal' at p rs) items = tt
-  domain-base_fits (DomainSlice' p d q rs) items = tt
-  domain-base_fits (Expanded' p d at q e) items = tt
-  domain-base_fits (Created' at p d) items = tt
+  domain-base_fits _ items = tt

@@ -2,7 +2,7 @@
 -- The lemma on a post is stated of the posts so far, by what is left of them.
 use Rattle.std.proofs.Common.{◌≡◌, true, false, Option, None, refl, sym, ap, ◌∙◌}
 use Rattle.std.specs.Prelude.{if◌then◌else◌}
-use Rattle.dpl_language.specs.Tree.{ExprTree, Number, TruthWord, Named, LocalesWord, LocaleCount, HereWord, Grouped, DomainLiteral, Prefixed, Reduced, Chain, Postfixed, ItemTree, One, RangeItem, Links, NoLinks, Link, Posts, NoPosts, Post, PostTree, Brackets, Rounds, Dotted, MethodTree, Plainly, Dim, Contains, Expand, CellRead}
+use Rattle.dpl_language.specs.Tree.{ExprTree, Named, LocalesWord, LocaleCount, HereWord, Grouped, Chain, Postfixed, ItemTree, One, RangeItem, Links, NoLinks, Link, Posts, NoPosts, Post, PostTree, Brackets, Rounds, Dotted, MethodTree, CellRead}
 use Rattle.dpl_language.specs.Names.{Text}
 use Rattle.dpl_language.specs.Phrases.{Base, BaseName, BaseLocales, OtherBase, base_of, item_base, bare_name, method_read, post_read, posts_read}
 use Rattle.dpl_language.specs.Spelled.{HasPosts}
@@ -26,11 +26,8 @@ use Rattle.dpl_elaborator.specs.SoFar.{IsSteady, ArePostsSoFar}
 -- ---- no cell reads
 module _ (P : Text → Type 0) (f : Text → Variable) where
   method_read-renamed : (m : MethodTree Text) → IsSimpleMethod P m → method_read (renamed_method f m) ≡ None
-  method_read-renamed (Plainly at w) h = refl
-  method_read-renamed (Dim at from rank_at d upto) h = refl
-  method_read-renamed (Contains at from es upto) h = refl
-  method_read-renamed (Expand at from e upto) h = refl
   method_read-renamed (CellRead at w from upto) h = absurd h
+  method_read-renamed _ h = refl
 
   post_read-renamed : (p : PostTree Text) → IsSimplePost P p → post_read (renamed_post f p) ≡ None
   post_read-renamed (Brackets from items upto) h = refl
@@ -70,20 +67,16 @@ at-same f g OtherBase e h = ap bare_name (sym (e Once)) ∙ h
 module _ (scopes : Scopes) (P : Text → Type 0) where
   mutual
     pub stands-at : (e : ExprTree Text) → IsSimple P e → StandsAt (λ m. leaves_of scopes m e) (base_of (renamed_expr (leaf_in scopes) e))
-    stands-at (Number at n) h = refl
-    stands-at (TruthWord at b) h = refl
     stands-at (Named x) h = λ m. refl
     stands-at (LocalesWord at) h = absurd h
     stands-at (LocaleCount at) h = absurd h
     stands-at (HereWord at) h = absurd h
     stands-at (Grouped from item upto) h = item-stands-at item h
-    stands-at (DomainLiteral from items upto) h = refl
-    stands-at (Prefixed at op e) h = refl
-    stands-at (Reduced at op word e) h = refl
     stands-at (Chain e rest) h = nested-unnamed (leaves_of scopes Once e) (links_leaves scopes Once rest)
     stands-at (Postfixed e posts) h =
         stacked-unnamed (based known_variable (renamed_posts (leaf_in scopes) posts) (renamed_expr (leaf_in scopes) e) (leaves_of scopes Once e))
         (posts_leaves scopes (base_of (renamed_expr (leaf_in scopes) e)) posts)
+    stands-at _ h = refl
 
     item-stands-at : (i : ItemTree Text) → IsSimpleItem P i → StandsAt (λ m. as_expr (item_leaves scopes m i)) (item_base (renamed_item (leaf_in scopes) i))
     item-stands-at (One e) h =

@@ -15,7 +15,7 @@ use Rattle.dpl_language.specs.Roots.{deal_domain}
 use Rattle.dpl_language.specs.Statements.{exec}
 use Rattle.dpl_lowered.specs.Shapes.{nowhere}
 use Rattle.dpl_lowered.specs.LoweredStatements.{written_initial}
-use Rattle.dpl_words.specs.Words.{LeafKind, IntLeaf, TruthLeaf, RangeLeaf, LocaleLeaf, value_at}
+use Rattle.dpl_words.specs.Words.{LeafKind, IntLeaf, TruthLeaf, value_at}
 use Rattle.dpl_memory.specs.Memory.{PlainKind, Variable, Memory, variable, int_leaf, in_memory}
 use Rattle.dpl_memory.proofs.Known.{memory-known}
 use Rattle.dpl_nodes.specs.declared.step.IntDeed.{IntDeed}
@@ -58,11 +58,8 @@ gives-ends may (Err stop.Gate) s done m o e gives = gives
 pub told-ends : (may : Type 0) (r : Result (Unit {0}) Fault) (h : Result (Unit {0}) RunStop) (s : Memory) (done : Deeds) (o : Outcome Memory) → TellsSame r h → o ≡ ends_as (memory_after r s) done → RunsTo may h s done o
 told-ends may (Ok v) (Ok w) s done o t e = e
 told-ends may (Ok v) (Err h) s done o t e = absurd t
-told-ends may (Err f) (Ok w) s done o t e = absurd t
 told-ends may (Err f) (Err (stop.Fault g)) s done o t e = e ∙ ap (λ f. Stop f done) (sym t)
-told-ends may (Err f) (Err stop.Memory) s done o t e = absurd t
-told-ends may (Err f) (Err stop.Thread) s done o t e = absurd t
-told-ends may (Err f) (Err stop.Gate) s done o t e = absurd t
+told-ends may (Err f) _ s done o t e = absurd t
 
 module _ (limits : Limits) where
   pub evaluated-item : (item : ItemTree Variable) (go : Value → Run Memory) (s : Memory) (done : Deeds) → item_read item ≡ None
@@ -83,9 +80,7 @@ module _ (limits : Limits) where
   plain-undealt : (k : LeafKind) (slot : ℕ) (i : Option (InitialTree Variable)) (s after : Memory)
       → deal_domain limits in_memory None i (variable (PlainKind k) slot) (value_at k slot after.words) s after ≡ after
   plain-undealt IntLeaf slot i s after = refl
-  plain-undealt TruthLeaf slot i s after = refl
-  plain-undealt RangeLeaf slot i s after = refl
-  plain-undealt LocaleLeaf slot i s after = refl
+  plain-undealt _ slot i s after = refl
 
   then-undealt : (k : LeafKind) (slot : ℕ) (i : Option (InitialTree Variable)) (s : Memory) (o : Outcome Memory)
       → then_do o (λ after done. Done (deal_domain limits in_memory None i (variable (PlainKind k) slot) (value_at k slot after.words) s after) done) ≡ o

@@ -3,9 +3,9 @@
 use Rattle.std.proofs.Common.{◌≡◌, true, false, not, is_some, List, [], ◌∷◌, drop, Option, Some, None, refl, sym, ap, ◌∙◌, subst}
 use Rattle.dpl_syntax.specs.declared.refusal.Breach.{Breach}
 use Rattle.dpl_syntax.specs.declared.refusal.Code.TheVariants.{NameTwice}
-use Rattle.dpl_language.specs.Tree.{IntKind, BoolKind, Placed, ItemTree, VariablesTree, OneVariable, ManyVariables, LoopWord}
+use Rattle.dpl_language.specs.Tree.{IntKind, Placed, ItemTree, VariablesTree, OneVariable, ManyVariables, LoopWord}
 use Rattle.dpl_language.specs.Names.{Text}
-use Rattle.dpl_rules.specs.Types.{ValueType, Scalar, Range, Domain, Array, Promoted, Tuple, Locale, AllLocales, Cell, has, is_int}
+use Rattle.dpl_rules.specs.Types.{ValueType, Scalar, Tuple, has, is_int}
 use Rattle.dpl_rules.specs.Verdicts.{owed}
 use Rattle.dpl_rules.specs.Breaches.{least_from}
 use Rattle.dpl_rules.specs.Sights.{Declared, Scope, Scopes, find, declared_here, enter, add}
@@ -27,29 +27,13 @@ record IsVariable (t : Option ValueType) : Type 0 where
   pub single : is_promoted_by t ≡ false
 
 one-variable : (t : Option ValueType) → has is_one_turn t ≡ true → IsVariable t
-one-variable None h = absurd (let f : false ≡ true = h in cc)
 one-variable (Some (Scalar IntKind)) h = record { kind = PlainKind IntLeaf; of_kind = refl; single = refl }
-one-variable (Some (Scalar BoolKind)) h = absurd (let f : false ≡ true = h in cc)
-one-variable (Some (Range strided)) h = absurd (let f : false ≡ true = h in cc)
-one-variable (Some (Domain rank strided)) h = absurd (let f : false ≡ true = h in cc)
-one-variable (Some (Array k over)) h = absurd (let f : false ≡ true = h in cc)
-one-variable (Some (Promoted k over)) h = absurd (let f : false ≡ true = h in cc)
 one-variable (Some (Tuple rank)) h = record { kind = TupleKind; of_kind = ap (λ b. kind_if b TupleKind) h; single = refl }
-one-variable (Some Locale) h = absurd (let f : false ≡ true = h in cc)
-one-variable (Some AllLocales) h = absurd (let f : false ≡ true = h in cc)
-one-variable (Some (Cell k)) h = absurd (let f : false ≡ true = h in cc)
+one-variable _ h = absurd (let f : false ≡ true = h in cc)
 
 int-turn : (t : Option ValueType) → has is_int t ≡ true → has is_one_turn t ≡ true
-int-turn None h = h
-int-turn (Some (Scalar k)) h = h
-int-turn (Some (Range strided)) h = h
-int-turn (Some (Domain rank strided)) h = h
-int-turn (Some (Array k over)) h = h
-int-turn (Some (Promoted k over)) h = h
 int-turn (Some (Tuple rank)) h = absurd (let f : false ≡ true = h in cc)
-int-turn (Some Locale) h = h
-int-turn (Some AllLocales) h = h
-int-turn (Some (Cell k)) h = h
+int-turn _ h = h
 
 turn-variable : (xs : VariablesTree Text) (t : Option ValueType) → has (is_turn xs) t ≡ true → IsVariable t
 turn-variable (OneVariable x) t h = one-variable t h

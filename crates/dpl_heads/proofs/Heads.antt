@@ -5,10 +5,10 @@ use Rattle.std.specs.Prelude.{nat_lt, ◌&&◌, ◌||◌, if◌then◌else◌}
 use Rattle.std.proofs.lemmas.Bool.Decides.{nat_tests}
 use Rattle.dpl_syntax.specs.declared.refusal.Breach.{Breach}
 use Rattle.dpl_syntax.specs.declared.refusal.Code.TheVariants.{WrongType, WrongRank}
-use Rattle.dpl_language.specs.Tree.{Placed, AfterComma, ExprTree, Number, TruthWord, Named, LocalesWord, LocaleCount, HereWord, Grouped, DomainLiteral, Prefixed, Reduced, Chain, Postfixed, ItemTree, One, RangeItem, VariablesTree, OneVariable, ManyVariables, LoopWord}
+use Rattle.dpl_language.specs.Tree.{Placed, AfterComma, ExprTree, LocalesWord, ItemTree, One, RangeItem, VariablesTree, OneVariable, ManyVariables, LoopWord}
 use Rattle.dpl_language.specs.Names.{Text}
 use Rattle.dpl_tree.specs.declared.statement.NextName.{NextName}
-use Rattle.dpl_rules.specs.Types.{ValueType, Scalar, Range, Domain, Array, Promoted, Tuple, Locale, AllLocales, Cell, an_int, has, is_int, is_range, is_domain}
+use Rattle.dpl_rules.specs.Types.{ValueType, Range, Domain, Tuple, AllLocales, an_int, has, is_int, is_range, is_domain}
 use Rattle.dpl_rules.specs.Verdicts.{owed, breach}
 use Rattle.dpl_rules.specs.Places.{first_of_item, first_of_variables}
 use Rattle.dpl_rules.specs.Breaches.{least_from}
@@ -41,18 +41,8 @@ length_names (x ∷ xs) = ap suc (length_names xs)
 
 -- ---- what is written: no simple item is the word `Locales`
 not_bare : (ss : Scopes) (e : ExprTree Text) → IsSimple (IsFound ss) e → bare_locales e ≡ None
-not_bare ss (Number at n) h = refl
-not_bare ss (TruthWord at b) h = refl
-not_bare ss (Named x) h = refl
 not_bare ss (LocalesWord at) h = absurd h
-not_bare ss (LocaleCount at) h = refl
-not_bare ss (HereWord at) h = refl
-not_bare ss (Grouped from item upto) h = refl
-not_bare ss (DomainLiteral from items upto) h = refl
-not_bare ss (Prefixed at op e) h = refl
-not_bare ss (Reduced at op word e) h = refl
-not_bare ss (Chain e rest) h = refl
-not_bare ss (Postfixed e posts) h = refl
+not_bare ss _ h = refl
 
 over-type : (ss : Scopes) (item : ItemTree Text) → IsSimpleItem (IsFound ss) item → over_type ss item ≡ item_type ss item
 over-type ss (One e) h = ap (λ o. locales_or o (type_of ss e)) (not_bare ss e h)
@@ -82,15 +72,10 @@ neither false true h = absurd cc
 neither false false h = absurd cc
 
 runs-nothing : (word : LoopWord) (t : ValueType) → is_range t ≡ false → is_domain t ≡ false → has_node t ≡ true → runs_over word t ≡ true → ⊥
-runs-nothing word (Scalar k) r d n h = neither (over_domains word) (over_locales word) h
 runs-nothing word (Range strided) r d n h = absurd cc
 runs-nothing word (Domain rank strided) r d n h = absurd cc
-runs-nothing word (Array k over) r d n h = neither (over_domains word) (over_locales word) h
-runs-nothing word (Promoted k over) r d n h = neither (over_domains word) (over_locales word) h
-runs-nothing word (Tuple rank) r d n h = neither (over_domains word) (over_locales word) h
-runs-nothing word Locale r d n h = neither (over_domains word) (over_locales word) h
 runs-nothing word AllLocales r d n h = absurd (let f : false ≡ true = n in cc)
-runs-nothing word (Cell k) r d n h = neither (over_domains word) (over_locales word) h
+runs-nothing word _ r d n h = neither (over_domains word) (over_locales word) h
 
 -- ---- over a range there is one variable, an int
 two_or_more : (n : ℕ) → (suc (suc n) == 1) ≡ false
@@ -107,15 +92,8 @@ one-int (OneVariable x) strided several h = refl
 one-int (ManyVariables from xs upto) strided several h = not_one xs.first xs.others several h
 
 range-run : (word : LoopWord) (xs : VariablesTree Text) (t : ValueType) → is_range t ≡ true → HasSeveral xs → fits_variables xs t ≡ true → IsOneInt xs (typed_variable word xs (Some t))
-range-run word xs (Scalar k) r several h = absurd (let f : false ≡ true = r in cc)
 range-run word xs (Range strided) r several h = one-int xs strided several h
-range-run word xs (Domain rank strided) r several h = absurd (let f : false ≡ true = r in cc)
-range-run word xs (Array k over) r several h = absurd (let f : false ≡ true = r in cc)
-range-run word xs (Promoted k over) r several h = absurd (let f : false ≡ true = r in cc)
-range-run word xs (Tuple rank) r several h = absurd (let f : false ≡ true = r in cc)
-range-run word xs Locale r several h = absurd (let f : false ≡ true = r in cc)
-range-run word xs AllLocales r several h = absurd (let f : false ≡ true = r in cc)
-range-run word xs (Cell k) r several h = absurd (let f : false ≡ true = r in cc)
+range-run word xs _ r several h = absurd (let f : false ≡ true = r in cc)
 
 one_int-turn : (xs : VariablesTree Text) (t : Option ValueType) → IsOneInt xs t → has (is_turn xs) t ≡ true
 one_int-turn (OneVariable x) t h = ap (has is_one_turn) h
@@ -138,16 +116,9 @@ turned (OneVariable x) rank strided r h = one-turn rank r (rank == 1) refl
 turned (ManyVariables from xs upto) rank strided r h = ap (λ (b : Bool). has is_int (if b then Some an_int else None)) h
 
 domain-run : (word : LoopWord) (xs : VariablesTree Text) (t : ValueType) → is_domain t ≡ true → has_node t ≡ true → IsTurned word xs t → has (is_turn xs) (typed_variable word xs (Some t)) ≡ true
-domain-run word xs (Scalar k) d n h = absurd (let f : false ≡ true = d in cc)
-domain-run word xs (Range strided) d n h = absurd (let f : false ≡ true = d in cc)
 domain-run word xs (Domain rank strided) d n h =
     ap (λ (b : Bool). has (is_turn xs) (if b then variable_type xs (Domain rank strided) else None)) h.runs ∙ turned xs rank strided n h.fits
-domain-run word xs (Array k over) d n h = absurd (let f : false ≡ true = d in cc)
-domain-run word xs (Promoted k over) d n h = absurd (let f : false ≡ true = d in cc)
-domain-run word xs (Tuple rank) d n h = absurd (let f : false ≡ true = d in cc)
-domain-run word xs Locale d n h = absurd (let f : false ≡ true = d in cc)
-domain-run word xs AllLocales d n h = absurd (let f : false ≡ true = d in cc)
-domain-run word xs (Cell k) d n h = absurd (let f : false ≡ true = d in cc)
+domain-run word xs _ d n h = absurd (let f : false ≡ true = d in cc)
 
 -- ---- a head
 value-run : (word : LoopWord) (xs : VariablesTree Text) (item : ItemTree Variable) (v : Typed) (o : Iterable) → HasSeveral xs → IsTurned word xs (type_of_typed v) → has_node (type_of_typed v) ≡ true

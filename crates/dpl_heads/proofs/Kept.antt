@@ -14,7 +14,7 @@ use Rattle.dpl_tree.specs.declared.statement.NextIntent.{NextIntent}
 use Rattle.dpl_tree.specs.declared.statement.With.{With}
 use Rattle.dpl_tree.specs.Declarations.{optional}
 use Rattle.dpl_tree.specs.Statements.{intent_view, with_view}
-use Rattle.dpl_rules.specs.Types.{ValueType, Scalar, Range, Domain, Array, Promoted, Tuple, Locale, AllLocales, Cell, has, is_cell, is_scalar, op_kind}
+use Rattle.dpl_rules.specs.Types.{ValueType, Scalar, has, is_cell, is_scalar, op_kind}
 use Rattle.dpl_rules.specs.Verdicts.{owed, owed_type, breach}
 use Rattle.dpl_rules.specs.Breaches.{least_from}
 use Rattle.dpl_rules.specs.Sights.{Declared, Scopes, lookup, type_declared, is_constant}
@@ -47,14 +47,7 @@ scalar-same IntKind at (Scalar IntKind) h = refl
 scalar-same IntKind at (Scalar BoolKind) h = absurd cc
 scalar-same BoolKind at (Scalar IntKind) h = absurd cc
 scalar-same BoolKind at (Scalar BoolKind) h = refl
-scalar-same k at (Range strided) h = absurd cc
-scalar-same k at (Domain rank strided) h = absurd cc
-scalar-same k at (Array l over) h = absurd cc
-scalar-same k at (Promoted l over) h = absurd cc
-scalar-same k at (Tuple rank) h = absurd cc
-scalar-same k at Locale h = absurd cc
-scalar-same k at AllLocales h = absurd cc
-scalar-same k at (Cell l) h = absurd cc
+scalar-same k at _ h = absurd cc
 
 -- what the rule asks of the type of what is declared
 abbrev kind_told : Op → Place → Option ValueType → List Breach

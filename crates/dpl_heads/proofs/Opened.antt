@@ -1,8 +1,8 @@
 -- The variables of a loop as they are run: each has the next slot in the loop's scope, one behind the other.
 -- What is said of several variables is said of the names behind commas.
-use Rattle.std.proofs.Common.{◌≡◌, ℕ, Bor, Bool, true, false, List, [], ◌∷◌, map, Option, Some, None, refl, sym, ap, ◌∙◌, subst}
+use Rattle.std.proofs.Common.{◌≡◌, ℕ, Bor, Bool, true, false, List, [], ◌∷◌, map, Option, Some, refl, sym, ap, ◌∙◌, subst}
 use Rattle.dpl_syntax.specs.declared.place.Place.{Place}
-use Rattle.dpl_language.specs.Tree.{IntKind, BoolKind, Placed, ManyVariables}
+use Rattle.dpl_language.specs.Tree.{IntKind, Placed, ManyVariables}
 use Rattle.dpl_language.specs.Names.{Text}
 use Rattle.dpl_agreement.specs.Renamed.{renamed, map_comma}
 use Rattle.dpl_tree.specs.declared.expression.Name.{Name}
@@ -11,7 +11,7 @@ use Rattle.dpl_tree.specs.declared.statement.Variables.{Variables}
 use Rattle.dpl_tree.specs.declared.statement.Variables.TheVariants as variables
 use Rattle.dpl_tree.specs.View.{name_view}
 use Rattle.dpl_tree.specs.Statements.{next_name_view, variables_view}
-use Rattle.dpl_rules.specs.Types.{ValueType, Scalar, Range, Domain, Array, Promoted, Tuple, Locale, AllLocales, Cell, has, is_int}
+use Rattle.dpl_rules.specs.Types.{ValueType, Scalar, has, is_int}
 use Rattle.dpl_rules.specs.Sights.{Scopes, add}
 use Rattle.dpl_rules.specs.Loops.{add_variables}
 use Rattle.dpl_scopes.specs.Slots.{next_slot_in}
@@ -27,17 +27,8 @@ use Rattle.dpl_heads.specs.Listed.{names_in, slots_from}
 use Rattle.dpl_heads.specs.Made.{is_turn, variables_leaves}
 
 pub int-kind : (t : Option ValueType) → has is_int t ≡ true → kind_by t ≡ Some (PlainKind IntLeaf)
-int-kind None h = absurd (let f : false ≡ true = h in cc)
 int-kind (Some (Scalar IntKind)) h = refl
-int-kind (Some (Scalar BoolKind)) h = absurd (let f : false ≡ true = h in cc)
-int-kind (Some (Range strided)) h = absurd (let f : false ≡ true = h in cc)
-int-kind (Some (Domain rank strided)) h = absurd (let f : false ≡ true = h in cc)
-int-kind (Some (Array k over)) h = absurd (let f : false ≡ true = h in cc)
-int-kind (Some (Promoted k over)) h = absurd (let f : false ≡ true = h in cc)
-int-kind (Some (Tuple rank)) h = absurd (let f : false ≡ true = h in cc)
-int-kind (Some Locale) h = absurd (let f : false ≡ true = h in cc)
-int-kind (Some AllLocales) h = absurd (let f : false ≡ true = h in cc)
-int-kind (Some (Cell k)) h = absurd (let f : false ≡ true = h in cc)
+int-kind _ h = absurd (let f : false ≡ true = h in cc)
 
 -- a tuple of a rank that has one
 pub tuple_leaf : (b : Bool) (slot : ℕ) → b ≡ true → leaf_by (kind_if b TupleKind) (Some slot) ≡ variable TupleKind slot

@@ -4,8 +4,8 @@ use Rattle.std.proofs.Common.{◌≡◌, Bool, true, false, List, refl, sym, ap,
 use Rattle.dpl_syntax.specs.declared.place.Place.{Place}
 use Rattle.dpl_history.specs.declared.cell.CellOp.{CellOp}
 use Rattle.dpl_sets.specs.TextRanges.{TextRange}
-use Rattle.dpl_language.specs.Tree.{Placed, ExprTree, Number, TruthWord, Named, LocalesWord, LocaleCount, HereWord, Grouped, DomainLiteral, Prefixed, Reduced, Chain, Postfixed, ItemTree, One, RangeItem, Posts, NoPosts, Post, PostTree, Brackets, Rounds, Dotted, Items, Exprs}
-use Rattle.dpl_language.specs.Values.{Value, Int, Truth, Range, Domain, Array, Cell, Locale, AllLocales, Tuple, Index, index_of, array_domain, Fault}
+use Rattle.dpl_language.specs.Tree.{Placed, ExprTree, Named, LocalesWord, Grouped, ItemTree, One, RangeItem, Posts, NoPosts, Post, PostTree, Brackets, Rounds, Dotted, Items, Exprs}
+use Rattle.dpl_language.specs.Values.{Value, Array, AllLocales, Index, index_of, array_domain, Fault}
 use Rattle.dpl_language.specs.Outcome.{with_ok}
 use Rattle.dpl_language.specs.Environment.{Environment, Limits}
 use Rattle.dpl_language.specs.Phrases.{Base, BaseName, BaseLocales, OtherBase, base_of, item_base, bare_name, posts_read}
@@ -41,18 +41,10 @@ module _ {N S : Type 0} (limits : Limits) (env : Environment N S) where
 
   mutual
     base-gives : (e : ExprTree N) (s : S) → Gives (base_of e) (value_of limits env e None s) s
-    base-gives (Number at n) s = tt
-    base-gives (TruthWord at b) s = tt
     base-gives (Named x) s = refl
     base-gives (LocalesWord at) s = refl
-    base-gives (LocaleCount at) s = tt
-    base-gives (HereWord at) s = tt
     base-gives (Grouped from item upto) s = item-gives item s
-    base-gives (DomainLiteral from items upto) s = tt
-    base-gives (Prefixed at op e) s = tt
-    base-gives (Reduced at op word e) s = tt
-    base-gives (Chain e rest) s = tt
-    base-gives (Postfixed e posts) s = tt
+    base-gives _ s = tt
 
     item-gives : (i : ItemTree N) (s : S) → Gives (item_base i) (item_of limits env i None s) s
     item-gives (One e) s = base-gives e s
@@ -63,18 +55,8 @@ module _ {N S : Type 0} (limits : Limits) (env : Environment N S) where
   NameGives (Some x) r s = r ≡ Ok (env.get x.name s)
 
   name-gives : (e : ExprTree N) (s : S) → NameGives (bare_name e) (value_of limits env e None s) s
-  name-gives (Number at n) s = tt
-  name-gives (TruthWord at b) s = tt
   name-gives (Named x) s = refl
-  name-gives (LocalesWord at) s = tt
-  name-gives (LocaleCount at) s = tt
-  name-gives (HereWord at) s = tt
-  name-gives (Grouped from item upto) s = tt
-  name-gives (DomainLiteral from items upto) s = tt
-  name-gives (Prefixed at op e) s = tt
-  name-gives (Reduced at op word e) s = tt
-  name-gives (Chain e rest) s = tt
-  name-gives (Postfixed e posts) s = tt
+  name-gives _ s = tt
 
   in_brackets-value : {B : Type 0} (p : Option B) (e : ExprTree N) (s : S) → value_of limits env (in_brackets p e) None s ≡ value_of limits env e None s
   in_brackets-value None e s = refl
@@ -88,26 +70,12 @@ module _ {N S : Type 0} (limits : Limits) (env : Environment N S) where
 
   -- AN ACCESS, by what a fault may tell of its base
   bracketed-unplaced : (x : Placed N) (vs : List Value) (v : Value) (s : S) → array_domain v ≡ None → bracketed limits env (BaseName (placed false x)) vs v s ≡ bracketed limits env (BaseName x) vs v s
-  bracketed-unplaced x vs (Int n) s e = refl
-  bracketed-unplaced x vs (Truth c) s e = refl
-  bracketed-unplaced x vs (Range r) s e = refl
-  bracketed-unplaced x vs (Domain rs) s e = refl
   bracketed-unplaced x vs (Array k rs) s e = absurd (let no : Some rs ≡ None = e in cc)
-  bracketed-unplaced x vs (Cell k) s e = refl
-  bracketed-unplaced x vs (Locale k) s e = refl
-  bracketed-unplaced x vs AllLocales s e = refl
-  bracketed-unplaced x vs (Tuple t) s e = refl
+  bracketed-unplaced x vs _ s e = refl
 
   bracketed-element : (b : Base N) (rs : List TextRange) (vs : List Value) (v : Value) (s : S) → array_domain v ≡ Some rs → bracketed limits env b vs v s ≡ element_of limits env b (index_of vs) s
-  bracketed-element b rs vs (Int n) s e = absurd (let no : None ≡ Some rs = e in cc)
-  bracketed-element b rs vs (Truth c) s e = absurd (let no : None ≡ Some rs = e in cc)
-  bracketed-element b rs vs (Range r) s e = absurd (let no : None ≡ Some rs = e in cc)
-  bracketed-element b rs vs (Domain ds) s e = absurd (let no : None ≡ Some rs = e in cc)
   bracketed-element b rs vs (Array k ds) s e = refl
-  bracketed-element b rs vs (Cell k) s e = absurd (let no : None ≡ Some rs = e in cc)
-  bracketed-element b rs vs (Locale k) s e = absurd (let no : None ≡ Some rs = e in cc)
-  bracketed-element b rs vs AllLocales s e = absurd (let no : None ≡ Some rs = e in cc)
-  bracketed-element b rs vs (Tuple t) s e = absurd (let no : None ≡ Some rs = e in cc)
+  bracketed-element b rs vs _ s e = absurd (let no : None ≡ Some rs = e in cc)
 
   -- a base serves a post as another does
   abbrev pub Serves : (N → Known) → PostTree N → Base N → Base N → Value → S → Type 0

@@ -3,7 +3,7 @@
 use Rattle.std.proofs.Common.{◌≡◌, Bool, true, false, refl, sym, ap, ◌∙◌}
 use Rattle.std.specs.Prelude.{if◌then◌else◌}
 use Rattle.dpl_syntax.specs.declared.place.Place.{Place}
-use Rattle.dpl_language.specs.Tree.{ExprTree, Number, TruthWord, Named, LocalesWord, LocaleCount, HereWord, Grouped, DomainLiteral, Prefixed, Reduced, Chain, Postfixed, ItemTree, One, RangeItem, Links, NoLinks, Link, Posts, NoPosts, Post}
+use Rattle.dpl_language.specs.Tree.{ExprTree, Grouped, Chain, Postfixed, ItemTree, One, RangeItem, Links, NoLinks, Link, Posts, NoPosts, Post}
 use Rattle.dpl_language.specs.Phrases.{base_of}
 use Rattle.dpl_lowered.specs.Known.{Known}
 use Rattle.dpl_lowered.specs.Shapes.{nowhere, as_expr, as_item, grouped, nests, nested, stacked_on, stacked}
@@ -16,101 +16,40 @@ module _ {N : Type 0} where
 
   -- no brackets, but round a range
   abbrev pub IsFormed : ExprTree N → Type 0
-  IsFormed (Number at n) = Unit {0}
-  IsFormed (TruthWord at b) = Unit {0}
-  IsFormed (Named x) = Unit {0}
-  IsFormed (LocalesWord at) = Unit {0}
-  IsFormed (LocaleCount at) = Unit {0}
-  IsFormed (HereWord at) = Unit {0}
   IsFormed (Grouped from item upto) = IsBracketedRange from item upto
-  IsFormed (DomainLiteral from items upto) = Unit {0}
-  IsFormed (Prefixed at op e) = Unit {0}
-  IsFormed (Reduced at op word e) = Unit {0}
-  IsFormed (Chain e rest) = Unit {0}
-  IsFormed (Postfixed e posts) = Unit {0}
+  IsFormed _ = Unit {0}
 
   -- no brackets at all
   abbrev pub IsBare : ExprTree N → Type 0
-  IsBare (Number at n) = Unit {0}
-  IsBare (TruthWord at b) = Unit {0}
-  IsBare (Named x) = Unit {0}
-  IsBare (LocalesWord at) = Unit {0}
-  IsBare (LocaleCount at) = Unit {0}
-  IsBare (HereWord at) = Unit {0}
   IsBare (Grouped from item upto) = ⊥
-  IsBare (DomainLiteral from items upto) = Unit {0}
-  IsBare (Prefixed at op e) = Unit {0}
-  IsBare (Reduced at op word e) = Unit {0}
-  IsBare (Chain e rest) = Unit {0}
-  IsBare (Postfixed e posts) = Unit {0}
+  IsBare _ = Unit {0}
 
   abbrev pub IsFormedItem : ItemTree N → Type 0
   IsFormedItem (One e) = IsBare e
   IsFormedItem (RangeItem low at dots high by) = Unit {0}
 
   bare-formed : (e : ExprTree N) → IsBare e → IsFormed e
-  bare-formed (Number at n) b = tt
-  bare-formed (TruthWord at v) b = tt
-  bare-formed (Named x) b = tt
-  bare-formed (LocalesWord at) b = tt
-  bare-formed (LocaleCount at) b = tt
-  bare-formed (HereWord at) b = tt
   bare-formed (Grouped from item upto) b = absurd b
-  bare-formed (DomainLiteral from items upto) b = tt
-  bare-formed (Prefixed at op e) b = tt
-  bare-formed (Reduced at op word e) b = tt
-  bare-formed (Chain e rest) b = tt
-  bare-formed (Postfixed e posts) b = tt
+  bare-formed _ b = tt
 
   as_expr-formed : (i : ItemTree N) → IsFormedItem i → IsFormed (as_expr i)
   as_expr-formed (One e) b = bare-formed e b
   as_expr-formed (RangeItem low at dots high by) b = (refl, refl)
 
   as_item-formed : (e : ExprTree N) → IsFormed e → IsFormedItem (as_item e)
-  as_item-formed (Number at n) f = tt
-  as_item-formed (TruthWord at v) f = tt
-  as_item-formed (Named x) f = tt
-  as_item-formed (LocalesWord at) f = tt
-  as_item-formed (LocaleCount at) f = tt
-  as_item-formed (HereWord at) f = tt
   as_item-formed (Grouped from (One e) upto) f = absurd f
-  as_item-formed (Grouped from (RangeItem low at dots high by) upto) f = tt
-  as_item-formed (DomainLiteral from items upto) f = tt
-  as_item-formed (Prefixed at op e) f = tt
-  as_item-formed (Reduced at op word e) f = tt
-  as_item-formed (Chain e rest) f = tt
-  as_item-formed (Postfixed e posts) f = tt
+  as_item-formed _ f = tt
 
   -- back and forth
   pub as_expr-as_item : (e : ExprTree N) → IsFormed e → as_expr (as_item e) ≡ e
-  as_expr-as_item (Number at n) f = refl
-  as_expr-as_item (TruthWord at v) f = refl
-  as_expr-as_item (Named x) f = refl
-  as_expr-as_item (LocalesWord at) f = refl
-  as_expr-as_item (LocaleCount at) f = refl
-  as_expr-as_item (HereWord at) f = refl
   as_expr-as_item (Grouped from (One e) upto) f = absurd f
   as_expr-as_item (Grouped from (RangeItem low at dots high by) upto) f =
       sym (ap (λ from. Grouped from (RangeItem low at dots high by) upto) f.0 ∙ ap (Grouped nowhere (RangeItem low at dots high by)) f.1)
-  as_expr-as_item (DomainLiteral from items upto) f = refl
-  as_expr-as_item (Prefixed at op e) f = refl
-  as_expr-as_item (Reduced at op word e) f = refl
-  as_expr-as_item (Chain e rest) f = refl
-  as_expr-as_item (Postfixed e posts) f = refl
+  as_expr-as_item _ f = refl
 
   as_item-bare : (e : ExprTree N) → IsBare e → as_item e ≡ One e
-  as_item-bare (Number at n) b = refl
-  as_item-bare (TruthWord at v) b = refl
-  as_item-bare (Named x) b = refl
-  as_item-bare (LocalesWord at) b = refl
-  as_item-bare (LocaleCount at) b = refl
-  as_item-bare (HereWord at) b = refl
   as_item-bare (Grouped from item upto) b = absurd b
-  as_item-bare (DomainLiteral from items upto) b = refl
-  as_item-bare (Prefixed at op e) b = refl
-  as_item-bare (Reduced at op word e) b = refl
-  as_item-bare (Chain e rest) b = refl
-  as_item-bare (Postfixed e posts) b = refl
+  as_item-bare _ b = refl
 
   pub as_item-as_expr : (i : ItemTree N) → IsFormedItem i → as_item (as_expr i) ≡ i
   as_item-as_expr (One e) b = as_item-bare e b
@@ -139,18 +78,10 @@ module _ {N : Type 0} where
 module _ {N : Type 0} (known : N → Known) where
   mutual
     pub lowered-formed : (m : Times) (e : ExprTree N) → IsFormed (lowered_expr known m e)
-    lowered-formed m (Number at n) = tt
-    lowered-formed m (TruthWord at b) = tt
-    lowered-formed m (Named x) = tt
-    lowered-formed m (LocalesWord at) = tt
-    lowered-formed m (LocaleCount at) = tt
-    lowered-formed m (HereWord at) = tt
     lowered-formed m (Grouped from item upto) = as_expr-formed (lowered_item known m item) (item-formed m item)
-    lowered-formed m (DomainLiteral from items upto) = tt
-    lowered-formed m (Prefixed at op e) = tt
-    lowered-formed m (Reduced at op word e) = tt
     lowered-formed m (Chain e rest) = nested-formed (lowered_expr known m e) (lowered_links known m rest)
     lowered-formed m (Postfixed e posts) = stacked-formed (based known posts e (lowered_expr known Once e)) (lowered_posts known (base_of e) posts)
+    lowered-formed m _ = tt
 
     pub item-formed : (m : Times) (i : ItemTree N) → IsFormedItem (lowered_item known m i)
     item-formed m (One e) = as_item-formed (lowered_expr known m e) (lowered-formed m e)

@@ -30,14 +30,7 @@ reading known env = record env { get = λ x s. as_known (known x) (env.get x s) 
 
 array_domain-no_array : (v : Value) → array_domain (no_array v) ≡ None
 array_domain-no_array (Int n) = refl
-array_domain-no_array (Truth b) = refl
-array_domain-no_array (Range r) = refl
-array_domain-no_array (Domain rs) = refl
-array_domain-no_array (Array k rs) = refl
-array_domain-no_array (Cell k) = refl
-array_domain-no_array (Locale k) = refl
-array_domain-no_array AllLocales = refl
-array_domain-no_array (Tuple t) = refl
+array_domain-no_array _ = refl
 
 as_known-so : (k : Known) (v : Value) → IsAsKnown k (as_known k v)
 as_known-so Unknown v = tt

@@ -5,7 +5,7 @@ use Rattle.std.specs.Prelude.{not, ◌&&◌, ◌||◌, if◌then◌else◌}
 use Rattle.std.specs.Option.{option_or}
 use Rattle.dpl_syntax.specs.declared.place.Place.{Place}
 use Rattle.dpl_sets.specs.TextRanges.{TextRange}
-use Rattle.dpl_language.specs.Tree.{Infix, Add, Subtract, Multiply, Divide, Remainder, Less, LessEqual, Greater, GreaterEqual, Equal, NotEqual, And, Or, ExprTree, Number, TruthWord, Named, LocalesWord, LocaleCount, HereWord, Grouped, DomainLiteral, Prefixed, Reduced, Chain, Postfixed, ItemTree, One, RangeItem, Links, NoLinks, Link, Posts, NoPosts, Post, PostTree, Exprs, FirstExpr, MoreExprs, NoExprs, NextExpr}
+use Rattle.dpl_language.specs.Tree.{Infix, Add, ExprTree, Number, Chain, Postfixed, ItemTree, One, RangeItem, Links, NoLinks, Link, Posts, NoPosts, Post, PostTree, Exprs, FirstExpr, MoreExprs, NoExprs, NextExpr}
 use Rattle.dpl_language.specs.Values.{Value, Truth, truth, Index, Fault}
 use Rattle.dpl_language.specs.Arithmetic.{infix_of, divides, tested_divisor, decides}
 use Rattle.dpl_language.specs.Outcome.{with_ok}
@@ -49,18 +49,7 @@ implied false y e h = absurd (let no : false ≡ true = h in cc)
 
 decides-truth : (op : Infix) (v : Value) → decides op v ≡ decides op (Truth (truth v))
 decides-truth Add v = refl
-decides-truth Subtract v = refl
-decides-truth Multiply v = refl
-decides-truth Divide v = refl
-decides-truth Remainder v = refl
-decides-truth Less v = refl
-decides-truth LessEqual v = refl
-decides-truth Greater v = refl
-decides-truth GreaterEqual v = refl
-decides-truth Equal v = refl
-decides-truth NotEqual v = refl
-decides-truth And v = refl
-decides-truth Or v = refl
+decides-truth _ v = refl
 
 passes_on-decided : (op next : Infix) (b : Bool) → passes_on op next ≡ true → decides op (Truth b) ≡ true → decides next (Truth b) ≡ true
 passes_on-decided op next true e h = implied (decides op (Truth true)) (decides next (Truth true)) (and-right _ _ e) h
@@ -78,31 +67,11 @@ module _ {N S : Type 0} (limits : Limits) (env : Environment N S) where
 
   pub as_item-value : (e : ExprTree N) (t : Option Index) (s : S) → item_of limits env (as_item e) t s ≡ value_of limits env e t s
   as_item-value (Number at n) t s = refl
-  as_item-value (TruthWord at b) t s = refl
-  as_item-value (Named x) t s = refl
-  as_item-value (LocalesWord at) t s = refl
-  as_item-value (LocaleCount at) t s = refl
-  as_item-value (HereWord at) t s = refl
-  as_item-value (Grouped from item upto) t s = refl
-  as_item-value (DomainLiteral from items upto) t s = refl
-  as_item-value (Prefixed at op e) t s = refl
-  as_item-value (Reduced at op word e) t s = refl
-  as_item-value (Chain e rest) t s = refl
-  as_item-value (Postfixed e posts) t s = refl
+  as_item-value _ t s = refl
 
   pub as_item-whole : (e : ExprTree N) (s : S) → whole_item limits env (as_item e) s ≡ whole_in limits env e s
   as_item-whole (Number at n) s = refl
-  as_item-whole (TruthWord at b) s = refl
-  as_item-whole (Named x) s = refl
-  as_item-whole (LocalesWord at) s = refl
-  as_item-whole (LocaleCount at) s = refl
-  as_item-whole (HereWord at) s = refl
-  as_item-whole (Grouped from item upto) s = refl
-  as_item-whole (DomainLiteral from items upto) s = refl
-  as_item-whole (Prefixed at op e) s = refl
-  as_item-whole (Reduced at op word e) s = refl
-  as_item-whole (Chain e rest) s = refl
-  as_item-whole (Postfixed e posts) s = refl
+  as_item-whole _ s = refl
 
   as_more_items-values : (es : MoreExprs N) (s : S) → more_items limits env (as_more_items es) s ≡ more_values limits env es s
   as_more_items-values NoExprs s = refl
@@ -228,17 +197,7 @@ module _ {N : Type 0} where
 
   pub as_item-base : (e : ExprTree N) → item_base (as_item e) ≡ base_of e
   as_item-base (Number at n) = refl
-  as_item-base (TruthWord at b) = refl
-  as_item-base (Named x) = refl
-  as_item-base (LocalesWord at) = refl
-  as_item-base (LocaleCount at) = refl
-  as_item-base (HereWord at) = refl
-  as_item-base (Grouped from item upto) = refl
-  as_item-base (DomainLiteral from items upto) = refl
-  as_item-base (Prefixed at op e) = refl
-  as_item-base (Reduced at op word e) = refl
-  as_item-base (Chain e rest) = refl
-  as_item-base (Postfixed e posts) = refl
+  as_item-base _ = refl
 
   grouped-base : (rest : Links N) (a : ExprTree N) (first : Links N) → base_of (grouped (Chain a first) rest) ≡ OtherBase
   grouped-base NoLinks a first = refl

@@ -6,7 +6,7 @@ use Rattle.dpl_syntax.specs.declared.place.Place.{Place}
 use Rattle.dpl_sets.specs.TextRanges.{TextRange}
 use Rattle.dpl_language.specs.Tree.{Placed, IntKind, BoolKind, Kind, ExprTree, Number, TruthWord, Named, LocalesWord, LocaleCount, HereWord, Grouped, DomainLiteral, Prefixed, Reduced, Chain, Postfixed, ItemTree, One, RangeItem, Links, NoLinks, Link, Posts, NoPosts, Post, PostTree, Brackets, Rounds, Dotted, Plainly, Dim, Contains, Expand, CellRead, Low, Items, FirstItem, NoItems, NextItem, Exprs}
 use Rattle.dpl_language.specs.Tree.{StartTree, StartExpr, StartTuple, MapTree, BlockMap, CyclicMap, BlockCyclicMap, MappedTree, TypeTree, ScalarType, SyncType, DomainType, ArrayType, DomainTypeTree, CreateWord, CreateBlock, CreateCyclic, CreateTree, InitTree, ItemInit, CreateInit, InitialTree, DeclareTree}
-use Rattle.dpl_language.specs.Values.{Value, Int, Truth, Range, Domain, Array, Cell, Locale, AllLocales, Tuple, Index, ranges_in, coordinates, all_ranges, Fault, fault, PastLimit}
+use Rattle.dpl_language.specs.Values.{Value, Domain, Array, Index, ranges_in, coordinates, all_ranges, Fault, fault, PastLimit}
 use Rattle.dpl_language.specs.Ranges.{too_many, sized, least_in, tuple_or_end, method_of}
 use Rattle.dpl_language.specs.Distributions.{Distribution, CyclicFrom, Root}
 use Rattle.dpl_language.specs.Outcome.{with_ok}
@@ -16,7 +16,7 @@ use Rattle.dpl_language.specs.Expressions.{items_of}
 use Rattle.dpl_language.specs.Declarations.{type_of}
 use Rattle.dpl_language.specs.Roots.{by_post, by_posts, derived_from, derived_item, derived_over, type_map, is_typed_domain, or_no_map, root_by, cyclic_or_none, created_by, each_value, start_of, map_of, named_by, created, derived_root, init_root, initial_root, domain_root, deal_domain, deal_array, deal_by, dealt}
 use Rattle.dpl_agreement.proofs.RunsAlike.{with_ok-same}
-use Rattle.dpl_lowered.specs.Known.{Known, Unknown, WholeArray, NoArray, PlainValue, may_be_array, IsKnown}
+use Rattle.dpl_lowered.specs.Known.{Known, Unknown, may_be_array, IsKnown}
 use Rattle.dpl_lowered.specs.Shapes.{nowhere, as_expr, as_item, in_brackets, item_in_brackets, hidden_item, grouped, nests, nested, stacked_on, stacked}
 use Rattle.dpl_lowered.specs.LoweredExpressions.{Times, Once, rebased, name_base, read_base, rounds_by, told_base, based, rounds_of, lowered_expr, lowered_item, lowered_items, lowered_links, lowered_posts, lowered_post, lowered_exprs}
 use Rattle.dpl_lowered.specs.LoweredStatements.{root_type, created_map, default_tree, lowered_side, lowered_over, lowered_array, lowered_start, lowered_map, lowered_mapped, created_tree, lowered_init, lowered_init_map, lowered_with, plain_initial, lowered_initial, map_by, domain_type, domain_initial, declared_type, declared_initial, lowered_declare}
@@ -31,17 +31,7 @@ module _ {N : Type 0} where
 
   as_item-derived : (e : ExprTree N) → derived_item (as_item e) ≡ derived_from e
   as_item-derived (Number at n) = refl
-  as_item-derived (TruthWord at b) = refl
-  as_item-derived (Named x) = refl
-  as_item-derived (LocalesWord at) = refl
-  as_item-derived (LocaleCount at) = refl
-  as_item-derived (HereWord at) = refl
-  as_item-derived (Grouped from item upto) = refl
-  as_item-derived (DomainLiteral from items upto) = refl
-  as_item-derived (Prefixed at op e) = refl
-  as_item-derived (Reduced at op word e) = refl
-  as_item-derived (Chain e rest) = refl
-  as_item-derived (Postfixed e posts) = refl
+  as_item-derived _ = refl
 
   brackets-derived : {B : Type 0} (o : Option B) (e : ExprTree N) → derived_from (in_brackets o e) ≡ derived_from e
   brackets-derived None e = refl
@@ -81,19 +71,8 @@ module _ {N : Type 0} where
 
   mutual
     base-derived : (e : ExprTree N) → by_base (base_of e) (derived_from e) ≡ derived_from e
-    base-derived (Number at n) = refl
-    base-derived (TruthWord at b) = refl
-    base-derived (Named x) = refl
-    base-derived (LocalesWord at) = refl
-    base-derived (LocaleCount at) = refl
-    base-derived (HereWord at) = refl
     base-derived (Grouped from (One e) upto) = base-derived e
-    base-derived (Grouped from (RangeItem low at dots high by) upto) = refl
-    base-derived (DomainLiteral from items upto) = refl
-    base-derived (Prefixed at op e) = refl
-    base-derived (Reduced at op word e) = refl
-    base-derived (Chain e rest) = refl
-    base-derived (Postfixed e posts) = refl
+    base-derived _ = refl
 
   rebased-derived : (b : Base N) (e : ExprTree N) → derived_from (rebased b e) ≡ by_base b (derived_from e)
   rebased-derived (BaseName x) e = refl
@@ -140,9 +119,7 @@ module _ {N : Type 0} (known : N → Known) where
 
   rounds_by-derived : (k : Known) (es : Exprs N) (o : Option N) → by_post (rounds_by k es) o ≡ o
   rounds_by-derived Unknown es o = refl
-  rounds_by-derived WholeArray es o = refl
-  rounds_by-derived NoArray es o = refl
-  rounds_by-derived PlainValue es o = refl
+  rounds_by-derived _ es o = refl
 
   rounds-derived : (b : Base N) (es : Exprs N) (o : Option N) → by_post (rounds_of known b es) o ≡ o
   rounds-derived (BaseName x) es o = rounds_by-derived (known x.name) es o
@@ -164,21 +141,13 @@ module _ {N : Type 0} (known : N → Known) where
 
   mutual
     pub derived-lowered : (m : Times) (e : ExprTree N) → derived_from (lowered_expr known m e) ≡ derived_from e
-    derived-lowered m (Number at n) = refl
-    derived-lowered m (TruthWord at b) = refl
-    derived-lowered m (Named x) = refl
-    derived-lowered m (LocalesWord at) = refl
-    derived-lowered m (LocaleCount at) = refl
-    derived-lowered m (HereWord at) = refl
     derived-lowered m (Grouped from item upto) = as_expr-derived (lowered_item known m item) ∙ item-derived m item
-    derived-lowered m (DomainLiteral from items upto) = refl
-    derived-lowered m (Prefixed at op e) = refl
-    derived-lowered m (Reduced at op word e) = refl
     derived-lowered m (Chain e rest) = nested-derived (lowered_expr known m e) (lowered_links known m rest)
     derived-lowered m (Postfixed e posts) =
         stacked-derived (based known posts e (lowered_expr known Once e)) (lowered_posts known (base_of e) posts)
         ∙ posts-derived (base_of e) posts (derived_from (based known posts e (lowered_expr known Once e)))
         ∙ ap (by_posts posts) (based-derived posts e (lowered_expr known Once e) (derived-lowered Once e))
+    derived-lowered m _ = refl
 
     pub item-derived : (m : Times) (i : ItemTree N) → derived_item (lowered_item known m i) ≡ derived_item i
     item-derived m (One e) = as_item-derived (lowered_expr known m e) ∙ derived-lowered m e
@@ -281,25 +250,11 @@ module _ {N S : Type 0} (limits : Limits) (env : Environment N S) (known : N →
   deal_domain-by : (type : Option (TypeTree N)) (i : Option (InitialTree N)) (kind : Option (TypeTree N)) (j : Option (InitialTree N)) (x : N) (v : Value) (s after : S)
       → ((rs : List TextRange) → root_beside type i rs s ≡ root_beside kind j rs s) → deal_domain limits env type i x v s after ≡ deal_domain limits env kind j x v s after
   deal_domain-by type i kind j x (Domain rs) s after p = ap (λ r. env.deal x r after) (p rs)
-  deal_domain-by type i kind j x (Int n) s after p = refl
-  deal_domain-by type i kind j x (Truth n) s after p = refl
-  deal_domain-by type i kind j x (Range n) s after p = refl
-  deal_domain-by type i kind j x (Array k rs) s after p = refl
-  deal_domain-by type i kind j x (Cell n) s after p = refl
-  deal_domain-by type i kind j x (Locale n) s after p = refl
-  deal_domain-by type i kind j x AllLocales s after p = refl
-  deal_domain-by type i kind j x (Tuple n) s after p = refl
+  deal_domain-by type i kind j x _ s after p = refl
 
   deal_array-lowered : (a : _) (x : N) (v : Value) (s after : S) → deal_array limits env (lowered_array known a) x v s after ≡ deal_array limits env a x v s after
   deal_array-lowered a x (Array k rs) s after = ap (λ o. env.deal x (derived_root limits env o rs s) after) (over-derived known a.over)
-  deal_array-lowered a x (Int n) s after = refl
-  deal_array-lowered a x (Truth n) s after = refl
-  deal_array-lowered a x (Range n) s after = refl
-  deal_array-lowered a x (Domain rs) s after = refl
-  deal_array-lowered a x (Cell n) s after = refl
-  deal_array-lowered a x (Locale n) s after = refl
-  deal_array-lowered a x AllLocales s after = refl
-  deal_array-lowered a x (Tuple n) s after = refl
+  deal_array-lowered a x _ s after = refl
 
   -- a type beside which a root is told is no array's
   root_type-deal : (o : Option (MappedTree N)) (i : Option (InitialTree N)) (x : N) (v : Value) (s after : S) → deal_by limits env (root_type o) i x v s after ≡ deal_domain limits env (root_type o) i x v s after

@@ -29,33 +29,13 @@ module _ {N : Type 0} where
   -- AN EXPRESSION AS AN ITEM
   as_item-read : (l : ExprTree N) (o : Option (ReadTree N)) → AsSeen o (cell_read l) → AsSeen o (item_read (as_item l))
   as_item-read l None a = tt
-  as_item-read (Number at n) (Some r) a = a
-  as_item-read (TruthWord at b) (Some r) a = a
-  as_item-read (Named x) (Some r) a = a
-  as_item-read (LocalesWord at) (Some r) a = a
-  as_item-read (LocaleCount at) (Some r) a = a
-  as_item-read (HereWord at) (Some r) a = a
   as_item-read (Grouped from item upto) (Some r) a = absurd (let no : None ≡ Some r = a in cc)
-  as_item-read (DomainLiteral from items upto) (Some r) a = a
-  as_item-read (Prefixed at op e) (Some r) a = a
-  as_item-read (Reduced at op word e) (Some r) a = a
-  as_item-read (Chain e rest) (Some r) a = a
-  as_item-read (Postfixed e posts) (Some r) a = a
+  as_item-read _ (Some r) a = a
 
   as_item-over : (l : ExprTree N) (o : Option N) → AsSeen o (name_of (bare_name l)) → AsSeen o (item_over (as_item l))
   as_item-over l None a = tt
-  as_item-over (Number at n) (Some x) a = a
-  as_item-over (TruthWord at b) (Some x) a = a
-  as_item-over (Named y) (Some x) a = a
-  as_item-over (LocalesWord at) (Some x) a = a
-  as_item-over (LocaleCount at) (Some x) a = a
-  as_item-over (HereWord at) (Some x) a = a
   as_item-over (Grouped from item upto) (Some x) a = absurd (let no : None ≡ Some x = a in cc)
-  as_item-over (DomainLiteral from items upto) (Some x) a = a
-  as_item-over (Prefixed at op e) (Some x) a = a
-  as_item-over (Reduced at op word e) (Some x) a = a
-  as_item-over (Chain e rest) (Some x) a = a
-  as_item-over (Postfixed e posts) (Some x) a = a
+  as_item-over _ (Some x) a = a
 
   -- IN BRACKETS
   hidden_item-read : (o p : Option (ReadTree N)) (i : ItemTree N) → item_read i ≡ p → AsSeen o p → item_read (hidden_item o p i) ≡ o
@@ -74,18 +54,8 @@ module _ {N : Type 0} where
     NoName : bare_name l ≡ None → Either l
 
   pub either : (l : ExprTree N) → Either l
-  either (Number at n) = NoRead refl
-  either (TruthWord at b) = NoRead refl
-  either (Named x) = NoRead refl
-  either (LocalesWord at) = NoRead refl
-  either (LocaleCount at) = NoRead refl
-  either (HereWord at) = NoRead refl
-  either (Grouped from item upto) = NoRead refl
-  either (DomainLiteral from items upto) = NoRead refl
-  either (Prefixed at op e) = NoRead refl
-  either (Reduced at op word e) = NoRead refl
-  either (Chain e rest) = NoRead refl
   either (Postfixed e posts) = NoName refl
+  either _ = NoRead refl
 
   hidden-read : (o p : Option (ReadTree N)) (l : ExprTree N) → cell_read l ≡ p → AsSeen o p → cell_read (hidden o p l) ≡ o
   hidden-read None None l e a = e
@@ -115,18 +85,8 @@ module _ {N : Type 0} where
 
   -- an expression that is a bare name
   pub bare_name-is : (l : ExprTree N) (x : Placed N) → bare_name l ≡ Some x → l ≡ Named x
-  bare_name-is (Number at n) x e = absurd (let no : None ≡ Some x = e in cc)
-  bare_name-is (TruthWord at b) x e = absurd (let no : None ≡ Some x = e in cc)
   bare_name-is (Named y) x e = let same : Some y ≡ Some x = e in let name : y ≡ x = cc in ap Named name
-  bare_name-is (LocalesWord at) x e = absurd (let no : None ≡ Some x = e in cc)
-  bare_name-is (LocaleCount at) x e = absurd (let no : None ≡ Some x = e in cc)
-  bare_name-is (HereWord at) x e = absurd (let no : None ≡ Some x = e in cc)
-  bare_name-is (Grouped from item upto) x e = absurd (let no : None ≡ Some x = e in cc)
-  bare_name-is (DomainLiteral from items upto) x e = absurd (let no : None ≡ Some x = e in cc)
-  bare_name-is (Prefixed at op e') x e = absurd (let no : None ≡ Some x = e in cc)
-  bare_name-is (Reduced at op word e') x e = absurd (let no : None ≡ Some x = e in cc)
-  bare_name-is (Chain e' rest) x e = absurd (let no : None ≡ Some x = e in cc)
-  bare_name-is (Postfixed e' posts) x e = absurd (let no : None ≡ Some x = e in cc)
+  bare_name-is _ x e = absurd (let no : None ≡ Some x = e in cc)
 
   -- indices behind a base make no cell read
   pub brackets-read : (from : Place) (items : Items N) (upto : Place) (rest : Posts N) → None ≡ posts_read (Post (Brackets from items upto) rest)
@@ -141,19 +101,11 @@ module _ {N : Type 0} (known : N → Known) where
   -- BASES
   mutual
     pub base_of-lowered : (e : ExprTree N) → base_of (lowered_expr known Once e) ≡ placeless (base_of e)
-    base_of-lowered (Number at n) = refl
-    base_of-lowered (TruthWord at b) = refl
-    base_of-lowered (Named x) = refl
-    base_of-lowered (LocalesWord at) = refl
-    base_of-lowered (LocaleCount at) = refl
-    base_of-lowered (HereWord at) = refl
     base_of-lowered (Grouped from item upto) = as_expr-base (lowered_item known Once item) ∙ item_base-lowered item
-    base_of-lowered (DomainLiteral from items upto) = refl
-    base_of-lowered (Prefixed at op e) = refl
-    base_of-lowered (Reduced at op word e) = refl
     base_of-lowered (Chain e rest) = nested-base (lowered_expr known Once e) (lowered_links known Once rest)
     base_of-lowered (Postfixed e posts) =
         stacked-base (based known posts e (lowered_expr known Once e)) (lowered_posts known (base_of e) posts)
+    base_of-lowered _ = refl
 
     item_base-lowered : (i : ItemTree N) → item_base (lowered_item known Once i) ≡ placeless (item_base i)
     item_base-lowered (One e) = as_item-base (lowered_expr known Once e) ∙ base_of-lowered e
@@ -202,18 +154,8 @@ module _ {N : Type 0} (known : N → Known) where
 
   -- BARE NAMES
   bare_name-lowered : (m : Times) (e : ExprTree N) → AsSeen (name_of (bare_name e)) (name_of (bare_name (lowered_expr known m e)))
-  bare_name-lowered m (Number at n) = tt
-  bare_name-lowered m (TruthWord at b) = tt
   bare_name-lowered m (Named x) = refl
-  bare_name-lowered m (LocalesWord at) = tt
-  bare_name-lowered m (LocaleCount at) = tt
-  bare_name-lowered m (HereWord at) = tt
-  bare_name-lowered m (Grouped from item upto) = tt
-  bare_name-lowered m (DomainLiteral from items upto) = tt
-  bare_name-lowered m (Prefixed at op e) = tt
-  bare_name-lowered m (Reduced at op word e) = tt
-  bare_name-lowered m (Chain e rest) = tt
-  bare_name-lowered m (Postfixed e posts) = tt
+  bare_name-lowered m _ = tt
 
   item_over-lowered : (m : Times) (i : ItemTree N) → AsSeen (item_over i) (item_over (lowered_item known m i))
   item_over-lowered m (One e) = as_item-over (lowered_expr known m e) (name_of (bare_name e)) (bare_name-lowered m e)

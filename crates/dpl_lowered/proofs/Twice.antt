@@ -4,7 +4,7 @@ use Rattle.std.proofs.Common.{◌≡◌, Bool, true, false, refl, sym, ap, ◌�
 use Rattle.std.specs.Prelude.{◌&&◌, if◌then◌else◌}
 use Rattle.dpl_syntax.specs.declared.place.Place.{Place}
 use Rattle.dpl_history.specs.declared.cell.CellOp.{CellOp}
-use Rattle.dpl_language.specs.Tree.{Placed, Dots, Closed, HalfOpen, Counted, Infix, ExprTree, Number, TruthWord, Named, LocalesWord, LocaleCount, HereWord, Grouped, DomainLiteral, Prefixed, Reduced, Chain, Postfixed, ItemTree, One, RangeItem, Stride, NoStride, By, Links, NoLinks, Link, Posts, NoPosts, Post, PostTree, Brackets, Rounds, Dotted, MethodTree, Plainly, Dim, Contains, Expand, CellRead, Items, FirstItem, MoreItems, NoItems, NextItem, Exprs, FirstExpr, MoreExprs, NoExprs, NextExpr}
+use Rattle.dpl_language.specs.Tree.{Placed, Dots, Closed, HalfOpen, Counted, Infix, ExprTree, Number, Named, Grouped, DomainLiteral, Prefixed, Reduced, Chain, Postfixed, ItemTree, One, RangeItem, Stride, NoStride, By, Links, NoLinks, Link, Posts, NoPosts, Post, PostTree, Brackets, Rounds, Dotted, MethodTree, Plainly, Dim, Contains, Expand, CellRead, Items, FirstItem, MoreItems, NoItems, NextItem, Exprs, FirstExpr, MoreExprs, NoExprs, NextExpr}
 use Rattle.dpl_language.specs.Arithmetic.{divides}
 use Rattle.dpl_language.specs.Phrases.{Base, BaseName, BaseLocales, OtherBase, base_of, bare_name, read_op}
 use Rattle.dpl_lowered.specs.Known.{Known, Unknown, WholeArray, NoArray, PlainValue, may_be_array}
@@ -38,33 +38,13 @@ module _ {N : Type 0} where
   -- a tree that looks like a base of a cell read is one
   read_base-again : (op : CellOp) (l : ExprTree N) → read_base (Some op) (bare_name l) l ≡ l
   read_base-again op (Number at n) = refl
-  read_base-again op (TruthWord at b) = refl
-  read_base-again op (Named x) = refl
-  read_base-again op (LocalesWord at) = refl
-  read_base-again op (LocaleCount at) = refl
-  read_base-again op (HereWord at) = refl
-  read_base-again op (Grouped from item upto) = refl
-  read_base-again op (DomainLiteral from items upto) = refl
-  read_base-again op (Prefixed at kind e) = refl
-  read_base-again op (Reduced at kind word e) = refl
-  read_base-again op (Chain e rest) = refl
-  read_base-again op (Postfixed e posts) = refl
+  read_base-again op _ = refl
 
 module _ {N : Type 0} (known : N → Known) where
   -- ITEMS
   as_item-lowered : (m : Times) (l : ExprTree N) → lowered_item known m (as_item l) ≡ as_item (lowered_expr known m l)
-  as_item-lowered m (Number at n) = refl
-  as_item-lowered m (TruthWord at b) = refl
-  as_item-lowered m (Named x) = refl
-  as_item-lowered m (LocalesWord at) = refl
-  as_item-lowered m (LocaleCount at) = refl
-  as_item-lowered m (HereWord at) = refl
   as_item-lowered m (Grouped from item upto) = sym (as_item-as_expr (lowered_item known m item) (item-formed known m item))
-  as_item-lowered m (DomainLiteral from items upto) = refl
-  as_item-lowered m (Prefixed at op e) = refl
-  as_item-lowered m (Reduced at op word e) = refl
-  as_item-lowered m (Chain e rest) = refl
-  as_item-lowered m (Postfixed e posts) = refl
+  as_item-lowered m _ = refl
 
   as_expr-lowered : (m : Times) (i : ItemTree N) → lowered_expr known m (as_expr i) ≡ as_expr (lowered_item known m i)
   as_expr-lowered m (One e) = sym (as_expr-as_item (lowered_expr known m e) (lowered-formed known m e))
@@ -146,17 +126,7 @@ module _ {N : Type 0} (known : N → Known) where
   in_brackets-read : (op : CellOp) (l : ExprTree N) → lowered_expr known Once l ≡ l
       → read_base (Some op) (bare_name (in_brackets (bare_name l) l)) (lowered_expr known Once (in_brackets (bare_name l) l)) ≡ in_brackets (bare_name l) l
   in_brackets-read op (Number at n) h = ap (read_base (Some op) None) h
-  in_brackets-read op (TruthWord at b) h = ap (read_base (Some op) None) h
-  in_brackets-read op (Named x) h = ap (read_base (Some op) None) h
-  in_brackets-read op (LocalesWord at) h = ap (read_base (Some op) None) h
-  in_brackets-read op (LocaleCount at) h = ap (read_base (Some op) None) h
-  in_brackets-read op (HereWord at) h = ap (read_base (Some op) None) h
-  in_brackets-read op (Grouped from item upto) h = ap (read_base (Some op) None) h
-  in_brackets-read op (DomainLiteral from items upto) h = ap (read_base (Some op) None) h
-  in_brackets-read op (Prefixed at kind e) h = ap (read_base (Some op) None) h
-  in_brackets-read op (Reduced at kind word e) h = ap (read_base (Some op) None) h
-  in_brackets-read op (Chain e rest) h = ap (read_base (Some op) None) h
-  in_brackets-read op (Postfixed e posts) h = ap (read_base (Some op) None) h
+  in_brackets-read op _ h = ap (read_base (Some op) None) h
 
   read_base-twice : (op : CellOp) (x : Option (Placed N)) (l : ExprTree N) → lowered_expr known Once l ≡ l
       → read_base (Some op) (bare_name (read_base (Some op) x l)) (lowered_expr known Once (read_base (Some op) x l)) ≡ read_base (Some op) x l
@@ -174,16 +144,13 @@ module _ {N : Type 0} (known : N → Known) where
       subst (λ op. again (rounds_of known (base_of e) (lowered_exprs known es)) (read_base op (bare_name e) (rebased (told_base known (Post (Rounds from es upto) rest) (base_of e)) l))
       ≡ read_base op (bare_name e) (rebased (told_base known (Post (Rounds from es upto) rest) (base_of e)) l))
       (rounds-read from es upto rest) (based-rounds from es upto (lowered_exprs known es) rest (base_of e) l h p)
-  based-twice (Dotted dot (Plainly at w)) NoPosts e l h p = h
   based-twice (Dotted dot (Plainly at w)) (Post q rest) e l h p = h
-  based-twice (Dotted dot (Dim at from rank_at d upto)) NoPosts e l h p = h
   based-twice (Dotted dot (Dim at from rank_at d upto)) (Post q rest) e l h p = h
-  based-twice (Dotted dot (Contains at from es upto)) NoPosts e l h p = h
   based-twice (Dotted dot (Contains at from es upto)) (Post q rest) e l h p = h
-  based-twice (Dotted dot (Expand at from k upto)) NoPosts e l h p = h
   based-twice (Dotted dot (Expand at from k upto)) (Post q rest) e l h p = h
   based-twice (Dotted dot (CellRead at w from upto)) NoPosts e l h p = read_base-twice (read_op w) (bare_name e) l h
   based-twice (Dotted dot (CellRead at w from upto)) (Post q rest) e l h p = ap (read_base (Some (read_op w)) (bare_name l)) h ∙ read_base-again (read_op w) l
+  based-twice (Dotted dot _) NoPosts e l h p = h
 
   -- what a post in round brackets sees of its base stays
   based-told : (p : PostTree N) (rest : Posts N) (e l : ExprTree N) → base_of l ≡ placeless (base_of e) → Follows p (base_of e) (base_of (based known (Post p rest) e l))
@@ -221,12 +188,7 @@ module _ {N : Type 0} (known : N → Known) where
 
   mutual
     pub expr-twice : (m : Times) (e : ExprTree N) → lowered_expr known m (lowered_expr known m e) ≡ lowered_expr known m e
-    expr-twice m (Number at n) = refl
-    expr-twice m (TruthWord at b) = refl
     expr-twice m (Named x) = ap (λ at. Named (record { at = at; name = x.name })) (kept-kept (each_turn m && may_be_array (known x.name)) x.at)
-    expr-twice m (LocalesWord at) = refl
-    expr-twice m (LocaleCount at) = refl
-    expr-twice m (HereWord at) = refl
     expr-twice m (Grouped from item upto) = as_expr-lowered m (lowered_item known m item) ∙ ap as_expr (item-twice m item)
     expr-twice m (DomainLiteral from items upto) = ap (λ is. DomainLiteral from is nowhere) (items-twice items)
     expr-twice m (Prefixed at op e) = ap (Prefixed nowhere op) (expr-twice m e)
@@ -243,6 +205,7 @@ module _ {N : Type 0} (known : N → Known) where
         ∙ ap (λ q. stacked_on (Postfixed (base_before p rest e) (Post q NoPosts)) (lowered_posts known OtherBase (lowered_posts known OtherBase rest)))
         (post-twice p (base_of e) (base_of (base_before p rest e)) (based-told p rest e (lowered_expr known Once e) (base_of-lowered known e)))
         ∙ ap (stacked_on (Postfixed (base_before p rest e) (Post (lowered_post known (base_of e) p) NoPosts))) (posts-twice rest)
+    expr-twice m _ = refl
 
     pub item-twice : (m : Times) (i : ItemTree N) → lowered_item known m (lowered_item known m i) ≡ lowered_item known m i
     item-twice m (One e) = as_item-lowered m (lowered_expr known m e) ∙ ap as_item (expr-twice m e)

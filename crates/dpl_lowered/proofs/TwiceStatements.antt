@@ -168,12 +168,9 @@ module _ {N : Type 0} (known : N → Known) where
   declared_initial-twice (Some (ArrayType a)) i = array_initial-twice i
 
   tells_name-twice : (type : Option (TypeTree N)) (i : Option (InitialTree N)) → tells_name (declared_type known type i) ≡ tells_name type
-  tells_name-twice None i = refl
-  tells_name-twice (Some (ScalarType at k)) i = refl
-  tells_name-twice (Some (SyncType at kind_at k)) i = refl
   tells_name-twice (Some (DomainType d)) None = refl
   tells_name-twice (Some (DomainType d)) (Some i) = root_type-untold (map_by known d.mapped i.init)
-  tells_name-twice (Some (ArrayType a)) i = refl
+  tells_name-twice _ i = refl
 
   -- a lowered declaration, of its parts
   abbrev declaration : Option Place → Placed N → Option (TypeTree N) → Option (InitialTree N) → DeclareTree N

@@ -6,7 +6,7 @@ use Rattle.std.specs.Option.{option_or}
 use mathlib.Core.Path.{fun_ext}
 use Rattle.dpl_syntax.specs.declared.place.Place.{Place}
 use Rattle.dpl_sets.specs.TextRanges.{TextRange}
-use Rattle.dpl_language.specs.Tree.{Placed, Dots, Closed, HalfOpen, Counted, Word, Size, First, Last, Low, High, LowBound, DomainOf, Id, ExprTree, Number, TruthWord, Named, LocalesWord, LocaleCount, HereWord, Grouped, DomainLiteral, Prefixed, Reduced, Chain, Postfixed, ItemTree, One, RangeItem, Stride, NoStride, By, Links, NoLinks, Link, Posts, NoPosts, Post, PostTree, Brackets, Rounds, Dotted, MethodTree, Plainly, Dim, Contains, Expand, CellRead, Items, FirstItem, MoreItems, NoItems, NextItem, Exprs, FirstExpr, MoreExprs, NoExprs, NextExpr}
+use Rattle.dpl_language.specs.Tree.{Placed, Dots, Closed, HalfOpen, Counted, Word, Size, ExprTree, Named, Grouped, DomainLiteral, Prefixed, Reduced, Chain, Postfixed, ItemTree, One, RangeItem, Stride, NoStride, By, Links, NoLinks, Link, Posts, NoPosts, Post, PostTree, Brackets, Rounds, Dotted, MethodTree, Plainly, Dim, Contains, Expand, CellRead, Items, FirstItem, MoreItems, NoItems, NextItem, Exprs, FirstExpr, MoreExprs, NoExprs, NextExpr}
 use Rattle.dpl_language.specs.Values.{Value, Index, number, array_domain, Fault}
 use Rattle.dpl_language.specs.Arithmetic.{infix_of, divides, decides}
 use Rattle.dpl_language.specs.Ranges.{bounded, method_of}
@@ -35,13 +35,7 @@ bounded-unplaced at (Counted count) l h = refl
 -- the ends alone tell where they are asked for
 method_of-kept : (w : Word) (at : Place) (v : Value) → method_of w (kept (is_end w) at) v ≡ method_of w at v
 method_of-kept Size at v = refl
-method_of-kept First at v = refl
-method_of-kept Last at v = refl
-method_of-kept Low at v = refl
-method_of-kept High at v = refl
-method_of-kept LowBound at v = refl
-method_of-kept DomainOf at v = refl
-method_of-kept Id at v = refl
+method_of-kept _ at v = refl
 
 module _ {N S : Type 0} (limits : Limits) (env : Environment N S) (known : N → Known) (is : IsKnown known env) where
   named-lowered : (m : Times) (t : Option Index) (x : Placed N) (s : S) → Allows m t
@@ -54,21 +48,14 @@ module _ {N S : Type 0} (limits : Limits) (env : Environment N S) (known : N →
   -- THE DOMAIN OF THE FIRST WHOLE ARRAY
   mutual
     pub whole_in-lowered : (m : Times) (e : ExprTree N) (s : S) → whole_in limits env (lowered_expr known m e) s ≡ whole_in limits env e s
-    whole_in-lowered m (Number at n) s = refl
-    whole_in-lowered m (TruthWord at b) s = refl
-    whole_in-lowered m (Named x) s = refl
-    whole_in-lowered m (LocalesWord at) s = refl
-    whole_in-lowered m (LocaleCount at) s = refl
-    whole_in-lowered m (HereWord at) s = refl
     whole_in-lowered m (Grouped from item upto) s = as_expr-whole limits env (lowered_item known m item) s ∙ whole_item-lowered m item s
-    whole_in-lowered m (DomainLiteral from items upto) s = refl
     whole_in-lowered m (Prefixed at op e) s = whole_in-lowered m e s
-    whole_in-lowered m (Reduced at op word e) s = refl
     whole_in-lowered m (Chain e rest) s =
         nested-whole limits env (lowered_expr known m e) (lowered_links known m rest) s
         ∙ ap (λ o. option_or o (whole_links limits env (lowered_links known m rest) s)) (whole_in-lowered m e s)
         ∙ ap (option_or (whole_in limits env e s)) (whole_links-lowered m rest s)
     whole_in-lowered m (Postfixed e posts) s = stacked-whole limits env (based known posts e (lowered_expr known Once e)) (lowered_posts known (base_of e) posts) s
+    whole_in-lowered m _ s = refl
 
     pub whole_item-lowered : (m : Times) (i : ItemTree N) (s : S) → whole_item limits env (lowered_item known m i) s ≡ whole_item limits env i s
     whole_item-lowered m (One e) s = as_item-whole limits env (lowered_expr known m e) s ∙ whole_in-lowered m e s
@@ -83,12 +70,7 @@ module _ {N S : Type 0} (limits : Limits) (env : Environment N S) (known : N →
   -- VALUES
   mutual
     pub value_of-lowered : (m : Times) (e : ExprTree N) (t : Option Index) (s : S) → Allows m t → value_of limits env (lowered_expr known m e) t s ≡ value_of limits env e t s
-    value_of-lowered m (Number at n) t s a = refl
-    value_of-lowered m (TruthWord at b) t s a = refl
     value_of-lowered m (Named x) t s a = named-lowered m t x s a
-    value_of-lowered m (LocalesWord at) t s a = refl
-    value_of-lowered m (LocaleCount at) t s a = refl
-    value_of-lowered m (HereWord at) t s a = refl
     value_of-lowered m (Grouped from item upto) t s a = as_expr-value limits env (lowered_item known m item) t s ∙ item_of-lowered m item t s a
     value_of-lowered m (DomainLiteral from items upto) t s a = with_ok-same _ _ _ _ (items_of-lowered items s) (λ vs. refl)
     value_of-lowered m (Prefixed at op e) t s a = with_ok-same _ _ _ _ (value_of-lowered m e t s a) (λ v. refl)
@@ -102,6 +84,7 @@ module _ {N S : Type 0} (limits : Limits) (env : Environment N S) (known : N →
         stacked-value limits env (based known posts e (lowered_expr known Once e)) (lowered_posts known (base_of e) posts) t s
         ∙ with_ok-same_by _ _ _ _ (based-value limits env known posts e s (value_of-lowered Once e None s tt))
         (λ v p. behind-lowered posts (base_of e) (base_of (based known posts e (lowered_expr known Once e))) s v (first-serves limits env known is posts e v s p))
+    value_of-lowered m _ t s a = refl
 
     chained-lowered : (m : Times) (l : Links N) (t : Option Index) (s : S) → Allows m t → (v : Value) → chained limits env (lowered_links known m l) t s v ≡ chained limits env l t s v
     chained-lowered m NoLinks t s a v = refl

@@ -2,7 +2,7 @@
 -- Names stay: what stands for a name in its place is another matter (see `Renamed`).
 use Rattle.std.specs.Prelude.{Bool, true, false, ◌&&◌, Option, Some, None}
 use Rattle.dpl_history.specs.declared.cell.CellOp.{CellOp}
-use Rattle.dpl_language.specs.Tree.{Placed, Dots, Closed, HalfOpen, Counted, Word, Size, First, Last, Low, High, LowBound, DomainOf, Id, ExprTree, Number, TruthWord, Named, LocalesWord, LocaleCount, HereWord, Grouped, DomainLiteral, Prefixed, Reduced, Chain, Postfixed, ItemTree, One, RangeItem, Stride, NoStride, By, Links, NoLinks, Link, Posts, NoPosts, Post, PostTree, Brackets, Rounds, Dotted, MethodTree, Plainly, Dim, Contains, Expand, CellRead, Items, FirstItem, MoreItems, NoItems, NextItem, Exprs, FirstExpr, MoreExprs, NoExprs, NextExpr}
+use Rattle.dpl_language.specs.Tree.{Placed, Dots, Closed, HalfOpen, Counted, Word, First, Last, Low, High, LowBound, ExprTree, Number, TruthWord, Named, LocalesWord, LocaleCount, HereWord, Grouped, DomainLiteral, Prefixed, Reduced, Chain, Postfixed, ItemTree, One, RangeItem, Stride, NoStride, By, Links, NoLinks, Link, Posts, NoPosts, Post, PostTree, Brackets, Rounds, Dotted, MethodTree, Plainly, Dim, Contains, Expand, CellRead, Items, FirstItem, MoreItems, NoItems, NextItem, Exprs, FirstExpr, MoreExprs, NoExprs, NextExpr}
 use Rattle.dpl_language.specs.Arithmetic.{divides}
 use Rattle.dpl_language.specs.Phrases.{Base, BaseName, BaseLocales, OtherBase, base_of, bare_name, posts_read}
 use Rattle.dpl_lowered.specs.Known.{Known, Unknown, WholeArray, NoArray, PlainValue, may_be_array}
@@ -26,14 +26,12 @@ unplaced_dots (Counted at) = Counted nowhere
 
 -- an empty range has no ends, which is told at the method's name; the other methods always have a value
 abbrev pub is_end : Word → Bool
-is_end Size = false
 is_end First = true
 is_end Last = true
 is_end Low = true
 is_end High = true
 is_end LowBound = true
-is_end DomainOf = false
-is_end Id = false
+is_end _ = false
 
 -- what a fault tells of a base
 abbrev pub rebased : {N : Type 0} → Base N → ExprTree N → ExprTree N

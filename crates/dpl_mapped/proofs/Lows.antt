@@ -8,7 +8,7 @@ use Rattle.dpl_syntax.specs.declared.place.Place.{Place}
 use Rattle.dpl_syntax.specs.declared.refusal.Breach.{Breach}
 use Rattle.dpl_language.specs.Names.{Text}
 use Rattle.dpl_language.specs.Phrases.{Base, BaseName, BaseLocales, OtherBase, base_of, bare_name, post_read, posts_read}
-use Rattle.dpl_language.specs.Tree.{Word, Size, First, Last, Low, High, LowBound, DomainOf, Id, ExprTree, Postfixed, Posts, NoPosts, Post, PostTree, Brackets, Rounds, Dotted, MethodTree, Plainly, Dim, Contains, Expand, CellRead, StartExpr}
+use Rattle.dpl_language.specs.Tree.{Word, Low, LowBound, ExprTree, Postfixed, Posts, NoPosts, Post, PostTree, Brackets, Rounds, Dotted, MethodTree, Plainly, CellRead, StartExpr}
 use Rattle.dpl_language.specs.Spelled.{HasPosts}
 use Rattle.dpl_agreement.specs.Renamed.{renamed_expr, renamed_posts, renamed_post}
 use Rattle.dpl_tree.specs.declared.expression.Post.{Post as PostNode}
@@ -87,18 +87,9 @@ low-post (Rounds from es upto) x k e = absurd (none-some k e)
 low-post (Dotted dot m) x k e = by m e
   where
     by : (m : MethodTree Text) → post_low (Dotted dot m) x ≡ Some k → (there : Place) × (Dotted dot m ≡ Dotted there (Plainly k.at (bound_word k.bound)))
-    by (Plainly at Size) e = absurd (none-some k e)
-    by (Plainly at First) e = absurd (none-some k e)
-    by (Plainly at Last) e = absurd (none-some k e)
     by (Plainly at Low) e = (dot, ap (λ (k : LowTree). Dotted dot (Plainly k.at (bound_word k.bound))) (some-same (record { of = x; at = at; bound = false }) k e))
-    by (Plainly at High) e = absurd (none-some k e)
     by (Plainly at LowBound) e = (dot, ap (λ (k : LowTree). Dotted dot (Plainly k.at (bound_word k.bound))) (some-same (record { of = x; at = at; bound = true }) k e))
-    by (Plainly at DomainOf) e = absurd (none-some k e)
-    by (Plainly at Id) e = absurd (none-some k e)
-    by (Dim at from rank_at d upto) e = absurd (none-some k e)
-    by (Contains at from es upto) e = absurd (none-some k e)
-    by (Expand at from y upto) e = absurd (none-some k e)
-    by (CellRead at word from upto) e = absurd (none-some k e)
+    by _ e = absurd (none-some k e)
 
 -- its place is near where those of the posts are
 low-near : (ps : Posts Text) (x : ExprTree Text) (k : LowTree) → posts_low ps x ≡ Some k → PostsSpelt IsNear ⊥ ps → IsNear k.at
@@ -308,13 +299,8 @@ told-first (Dotted dot m) r s b = refl
 module _ (ss : Scopes) (Holds : Text → Type 0) where
   -- nothing simple reads a cell
   post-unread : (p : PostTree Text) → IsSimplePost Holds p → post_read (renamed_post (leaf_in ss) p) ≡ None
-  post-unread (Brackets from items upto) h = refl
-  post-unread (Rounds from es upto) h = refl
-  post-unread (Dotted dot (Plainly at w)) h = refl
-  post-unread (Dotted dot (Dim at from rank_at d upto)) h = refl
-  post-unread (Dotted dot (Contains at from es upto)) h = refl
-  post-unread (Dotted dot (Expand at from e upto)) h = refl
   post-unread (Dotted dot (CellRead at w from upto)) h = absurd h
+  post-unread _ h = refl
 
   front-unread : (p q : PostTree Text) (rest : Posts Text) → IsSimplePost Holds p → posts_read (Post (renamed_post (leaf_in ss) p) (renamed_posts (leaf_in ss) (front_of (Post q rest)))) ≡ None
   front-unread p q NoPosts h = post-unread p h

@@ -5,7 +5,7 @@ use Rattle.std.specs.Prelude.{if◌then◌else◌}
 use Rattle.dpl_syntax.specs.declared.place.Place.{Place}
 use Rattle.dpl_language.specs.Names.{Text}
 use Rattle.dpl_language.specs.Phrases.{Base, BaseName, BaseLocales, OtherBase, base_of}
-use Rattle.dpl_language.specs.Tree.{ExprTree, Number, TruthWord, Named, LocalesWord, LocaleCount, HereWord, Grouped, DomainLiteral, Prefixed, Reduced, Chain, Postfixed, ItemTree, One, RangeItem, Stride, NoStride, By, Links, NoLinks, Link, Posts, NoPosts, Post, PostTree, Brackets, Rounds, Dotted, MethodTree, Plainly, Dim, Contains, Expand, CellRead, Items, FirstItem, MoreItems, NoItems, NextItem, Exprs, FirstExpr, MoreExprs, NoExprs, NextExpr}
+use Rattle.dpl_language.specs.Tree.{ExprTree, Named, Grouped, DomainLiteral, Prefixed, Reduced, Chain, Postfixed, ItemTree, One, RangeItem, Stride, NoStride, By, Links, NoLinks, Link, Posts, NoPosts, Post, PostTree, Brackets, Rounds, Dotted, MethodTree, Plainly, Dim, Contains, Expand, CellRead, Items, FirstItem, MoreItems, NoItems, NextItem, Exprs, FirstExpr, MoreExprs, NoExprs, NextExpr}
 use Rattle.dpl_rules.specs.Types.{is_array, is_cell, has}
 use Rattle.dpl_rules.specs.Sights.{Declared, Scopes, lookup}
 use Rattle.dpl_rules.specs.Deeds.{Deed, Reads, AReduction, held, array_deeds, cell_deeds, items_index, exprs_index, name_deeds, declared_deeds, base_deeds, inner_reduction, inner_reductions}
@@ -66,12 +66,7 @@ module _ (us ss : Scopes) where
 
   mutual
     pub expr-alike : (e : ExprTree Text) → AreAlike (expr_deeds us e) (expr_deeds ss e)
-    expr-alike (Number at n) = refl
-    expr-alike (TruthWord at b) = refl
     expr-alike (Named x) = declared-alike x.at NoPosts (lookup us x.name) (lookup ss x.name)
-    expr-alike (LocalesWord at) = refl
-    expr-alike (LocaleCount at) = refl
-    expr-alike (HereWord at) = refl
     expr-alike (Grouped from item upto) = item-alike item
     expr-alike (DomainLiteral from items upto) = items-alike items
     expr-alike (Prefixed at op e) = expr-alike e
@@ -80,6 +75,7 @@ module _ (us ss : Scopes) where
     expr-alike (Postfixed e posts) =
         both-alike (base_deeds us (base_of e) posts (expr_deeds us e)) (base_deeds ss (base_of e) posts (expr_deeds ss e)) (posts_deeds us posts) (posts_deeds ss posts)
         (base-alike (base_of e) posts (expr_deeds us e) (expr_deeds ss e) (expr-alike e)) (posts-alike posts)
+    expr-alike _ = refl
 
     item-alike : (i : ItemTree Text) → AreAlike (item_deeds us i) (item_deeds ss i)
     item-alike (One e) = expr-alike e

@@ -25,7 +25,7 @@ use Rattle.dpl_lowered.specs.LoweredExpressions.{Once, lowered_expr, lowered_mor
 use Rattle.dpl_memory.specs.Memory.{Variable, known_variable}
 use Rattle.dpl_nodes.specs.declared.placing.StartExpr.{StartExpr as StartNode}
 use Rattle.dpl_nodes.specs.declared.placing.StartExpr.TheVariants.{Index}
-use Rattle.dpl_nodes.specs.declared.tree.IndexExpr.{IndexExpr, Line', Plane', Space', Tuple}
+use Rattle.dpl_nodes.specs.declared.tree.IndexExpr.{IndexExpr, Line'}
 use Rattle.dpl_nodes.specs.Spots.{IsNear}
 use Rattle.dpl_nodes.specs.Steps.{index_start}
 use Rattle.dpl_nodes.specs.Typed.{index_exprs}
@@ -154,9 +154,7 @@ some-parts ss (FirstExpr e more) ps is =
 -- ---- an index as where a map starts: one expression, or several in a tuple
 index-start : (t : IndexExpr) → index_start t ≡ start_by (index_exprs t)
 index-start (Line' p a) = refl
-index-start (Plane' p a q b) = refl
-index-start (Space' p a q b r c) = refl
-index-start (Tuple slot) = refl
+index-start _ = refl
 
 module _ (ss : Scopes) where
   index-made : (es : Exprs Text) (ps : List PartNode) (index : Option (Bor IndexExpr)) → (all_known (map part_view ps) && are_none (each_wanted is_int (map part_view ps))) ≡ true → length ps < 4

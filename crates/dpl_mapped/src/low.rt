@@ -74,18 +74,7 @@ fn low_end(post: &Post<'_>) -> Option<Low>
             at: *at,
             bound: true,
         }),
-        Post::Dotted(_, Method::Plain(_, Word::Size))
-        | Post::Dotted(_, Method::Plain(_, Word::First))
-        | Post::Dotted(_, Method::Plain(_, Word::Last))
-        | Post::Dotted(_, Method::Plain(_, Word::High))
-        | Post::Dotted(_, Method::Plain(_, Word::DomainOf))
-        | Post::Dotted(_, Method::Plain(_, Word::Id))
-        | Post::Dotted(_, Method::Dim(_))
-        | Post::Dotted(_, Method::Contains(_))
-        | Post::Dotted(_, Method::Expand(_))
-        | Post::Dotted(_, Method::CellRead { .. })
-        | Post::Brackets { .. }
-        | Post::Rounds { .. } => None,
+        _ => None,
     }
 }
 

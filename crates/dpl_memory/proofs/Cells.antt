@@ -11,7 +11,7 @@ use Rattle.dpl_language.specs.Environment.{CellOf}
 use Rattle.dpl_language.specs.Names.{Text}
 use Rattle.dpl_agreement.proofs.Slots.{Bound as SlotBound, Sight as SlotSight, Mark, Name, slot_of, IsFresh, IsApart, same_slot, other_slot}
 use Rattle.dpl_agreement.proofs.SlotCells.{cell_of, with_state, cells_of as slots_cells, number_of, with_states}
-use Rattle.dpl_memory.specs.Memory.{VariableKind, PlainKind, DomainKind, TupleKind, ArrayKind, CellKind, Coming, Memory, value_in, cell_at, with_cell, cells_at, with_cells, is_among}
+use Rattle.dpl_memory.specs.Memory.{VariableKind, PlainKind, CellKind, Coming, Memory, value_in, cell_at, with_cell, cells_at, with_cells, is_among}
 use Rattle.dpl_memory.specs.Resolved.{Sighted, Sight, slot_if_cell, cells_of, cells_in, before, IsCellOf, HasShape, Shape, content_in, HasSlots}
 use Rattle.dpl_memory.proofs.InSight.{placed_name, with_names, in_slots, Told, IsToldIn, IsTold, contents, set_slot-each}
 
@@ -36,10 +36,7 @@ module _ (told : ℕ → Told) (slots : ℕ) where
 -- THE CELLS THEMSELVES
 cell_of-content : (k : VariableKind) (slot : ℕ) (over : Option SlotBound) (s : Memory) → cell_of (content_in k slot over s) ≡ cells_at (slot_if_cell k slot) s
 cell_of-content (PlainKind k) slot over s = refl
-cell_of-content DomainKind slot over s = refl
-cell_of-content TupleKind slot over s = refl
-cell_of-content (ArrayKind k) slot over s = refl
-cell_of-content (CellKind k) slot over s = refl
+cell_of-content _ slot over s = refl
 
 pub cells-slots : (told : ℕ → Told) (s : Memory) (g : SlotSight) → slots_cells (contents told s) g ≡ cells_at (cell_slots told g) s
 cells-slots told s [] = refl
@@ -78,11 +75,8 @@ before-last slot (x ∷ xs) =
     [ true ↦ λ e. cc | false ↦ λ e. ap (λ js. x ∷ js) (before-last slot xs e) ]
 
 not_among-if_cell : (k : VariableKind) (j slot : ℕ) → j ≢ slot → is_among j (slot_if_cell k slot) ≡ false
-not_among-if_cell (PlainKind k) j slot ne = refl
-not_among-if_cell DomainKind j slot ne = refl
-not_among-if_cell TupleKind j slot ne = refl
-not_among-if_cell (ArrayKind k) j slot ne = refl
 not_among-if_cell (CellKind k) j slot ne = ap (λ b. b || false) (other_slot j slot ne)
+not_among-if_cell _ j slot ne = refl
 
 pub fresh-not_among : (told : ℕ → Told) (j : ℕ) (g : SlotSight) → IsFresh j g → is_among j (cell_slots told g) ≡ false
 fresh-not_among told j [] h = refl
@@ -152,35 +146,23 @@ module _ (told : ℕ → Told) (s : Memory) (slot : ℕ) (k : Kind) (cell : (tol
 -- A CELL THAT IS PUT into its slot
 pub cell-put : {N : Type 0} (kind : VariableKind) (k : Kind) (slot : ℕ) (over : Option N) (c : CellState) (s : Memory) → IsCellOf kind k → slot < length s.cells
     → content_in kind slot over (with_cell slot c s) ≡ CellOf k c
-cell-put (PlainKind l) k slot over c s is within = absurd is
-cell-put DomainKind k slot over c s is within = absurd is
-cell-put TupleKind k slot over c s is within = absurd is
-cell-put (ArrayKind l) k slot over c s is within = absurd is
 cell-put (CellKind l) k slot over c s is within = ap (CellOf l) (get_or-set_same s.cells slot c Empty within) ∙ ap (λ k. CellOf k c) (sym is)
+cell-put _ k slot over c s is within = absurd is
 
 -- other cells, and what is to come, are no contents of other slots
 pub cells-other : {N : Type 0} (k : VariableKind) (j : ℕ) (over : Option N) (cs : List CellState) (c : Coming) (s : Memory) → get_or cs j Empty ≡ get_or s.cells j Empty
     → content_in k j over (record s { cells = cs; coming = c }) ≡ content_in k j over s
-cells-other (PlainKind k) j over cs c s e = refl
-cells-other DomainKind j over cs c s e = refl
-cells-other TupleKind j over cs c s e = refl
-cells-other (ArrayKind k) j over cs c s e = refl
 cells-other (CellKind k) j over cs c s e = ap (CellOf k) e
+cells-other _ j over cs c s e = refl
 
 -- the value of a cell is its kind alone
 pub cells-value : (k : VariableKind) (j : ℕ) (cs : List CellState) (c : Coming) (s : Memory) → value_in k j s ≡ value_in k j (record s { cells = cs; coming = c })
 cells-value (PlainKind k) j cs c s = refl
-cells-value DomainKind j cs c s = refl
-cells-value TupleKind j cs c s = refl
-cells-value (ArrayKind k) j cs c s = refl
-cells-value (CellKind k) j cs c s = refl
+cells-value _ j cs c s = refl
 
 pub cell-shape : (kind : VariableKind) (k : Kind) (shape : Shape) (slot : ℕ) (s : Memory) → IsCellOf kind k → HasShape kind shape (value_in kind slot s)
-cell-shape (PlainKind l) k shape slot s is = absurd is
-cell-shape DomainKind k shape slot s is = absurd is
-cell-shape TupleKind k shape slot s is = absurd is
-cell-shape (ArrayKind l) k shape slot s is = absurd is
 cell-shape (CellKind l) k shape slot s is = tt
+cell-shape _ k shape slot s is = absurd is
 
 pub cells-slotted : (slots : ℕ) (cs : List CellState) (c : Coming) (s : Memory) → HasSlots slots s → HasSlots slots (record s { cells = cs; coming = c })
 cells-slotted slots cs c s h = record {
@@ -215,36 +197,24 @@ module _ (told : ℕ → Told) (s : Memory) (c : Coming) where
 
   -- one name, by its kind: the first of the new states is put into the slot of a cell
   abbrev put_by : VariableKind → ℕ → List CellState → List CellState → List CellState
-  put_by (PlainKind k) slot ds held = held
-  put_by DomainKind slot ds held = held
-  put_by TupleKind slot ds held = held
-  put_by (ArrayKind k) slot ds held = held
   put_by (CellKind k) slot ds held = put_first slot ds held
+  put_by _ slot ds held = held
 
   put_by-last : (k : VariableKind) (xs : List ℕ) (slot : ℕ) (cs held : List CellState)
       → with_cells (xs ++ slot_if_cell k slot) cs held ≡ put_by k slot (drop (length xs) cs) (with_cells xs cs held)
-  put_by-last (PlainKind k) xs slot cs held = ap (λ ys. with_cells ys cs held) (append-nil xs)
-  put_by-last DomainKind xs slot cs held = ap (λ ys. with_cells ys cs held) (append-nil xs)
-  put_by-last TupleKind xs slot cs held = ap (λ ys. with_cells ys cs held) (append-nil xs)
-  put_by-last (ArrayKind k) xs slot cs held = ap (λ ys. with_cells ys cs held) (append-nil xs)
   put_by-last (CellKind k) xs slot cs held = with_cells-last xs slot cs held
+  put_by-last _ xs slot cs held = ap (λ ys. with_cells ys cs held) (append-nil xs)
 
   put_by-here : (k : VariableKind) (slot : ℕ) (over : Option SlotBound) (ds held : List CellState) → slot < length held
       → with_state ds (content_in k slot over (put held)) ≡ content_in k slot over (put (put_by k slot ds held))
-  put_by-here (PlainKind k) slot over ds held within = refl
-  put_by-here DomainKind slot over ds held within = refl
-  put_by-here TupleKind slot over ds held within = refl
-  put_by-here (ArrayKind k) slot over ds held within = refl
   put_by-here (CellKind k) slot over [] held within = refl
   put_by-here (CellKind k) slot over (d ∷ ds) held within = ap (CellOf k) (sym (get_or-set_same held slot d Empty within))
+  put_by-here _ slot over ds held within = refl
 
   put_by-get : (k : VariableKind) (slot j : ℕ) (ds held : List CellState) → j ≢ slot → get_or (put_by k slot ds held) j Empty ≡ get_or held j Empty
-  put_by-get (PlainKind k) slot j ds held ne = refl
-  put_by-get DomainKind slot j ds held ne = refl
-  put_by-get TupleKind slot j ds held ne = refl
-  put_by-get (ArrayKind k) slot j ds held ne = refl
   put_by-get (CellKind k) slot j [] held ne = refl
   put_by-get (CellKind k) slot j (d ∷ ds) held ne = get_or-set_other held slot j d Empty ne
+  put_by-get _ slot j ds held ne = refl
 
   -- each slot of the names in sight is one that has a cell
   abbrev pub AreWithin : SlotSight → Type 0

@@ -36,11 +36,8 @@ module _ (names more : ℕ → Text) (slot : ℕ) (same : (j : ℕ) → j ≢ sl
 
 -- NAMES THAT ARE NO ARRAYS are over nothing
 abbrev pub OverFits : VariableKind → Option Bound → Type 0
-OverFits (PlainKind k) over = over ≡ None
-OverFits DomainKind over = over ≡ None
-OverFits TupleKind over = over ≡ None
 OverFits (ArrayKind k) over = Unit {0}
-OverFits (CellKind k) over = over ≡ None
+OverFits _ over = over ≡ None
 
 abbrev pub FitIn : List Sighted → Type 0
 FitIn [] = Unit {0}
@@ -131,11 +128,8 @@ is_some-append (x ∷ xs) ys = refl
 
 content-over : (slot : ℕ) (k : VariableKind) (j : ℕ) (over : Option SlotBound) (known : Option Bound) (s : Memory) → OverFits k known → is_over_slot slot over ≡ is_over slot known
     → is_array_over_slot slot (content_in k j over s) ≡ is_over slot known
-content-over slot (PlainKind k) j over known s h e = sym (ap (is_over slot) h)
-content-over slot DomainKind j over known s h e = sym (ap (is_over slot) h)
-content-over slot TupleKind j over known s h e = sym (ap (is_over slot) h)
 content-over slot (ArrayKind k) j over known s h e = e
-content-over slot (CellKind k) j over known s h e = sym (ap (is_over slot) h)
+content-over slot _ j over known s h e = sym (ap (is_over slot) h)
 
 module _ (slot slots : ℕ) (told : ℕ → Told) (s : Memory) (domain : (told slot).kind ≡ DomainKind) where
   any_over-names : (bs : List Sighted) (fs : Sight) (g : SlotSight) → IsToldIn told slots bs → FitIn bs → OverShapedIn told fs bs

@@ -1,7 +1,7 @@
 -- An expression fits where each of its names has the leaf of its innermost declaration.
 -- So it fits evaluated once and at an index, and as the right side of an assignment.
 use Rattle.std.proofs.Common.{Option, Some, None}
-use Rattle.dpl_language.specs.Tree.{ExprTree, Number, TruthWord, Named, LocalesWord, LocaleCount, HereWord, Grouped, DomainLiteral, Prefixed, Reduced, Chain, Postfixed, ItemTree, One, RangeItem, Stride, NoStride, By, Links, NoLinks, Link, Posts, NoPosts, Post, PostTree, Brackets, Rounds, Dotted, MethodTree, Plainly, Dim, Contains, Expand, CellRead, Items, FirstItem, MoreItems, NoItems, NextItem, Exprs, FirstExpr, MoreExprs, NoExprs, NextExpr}
+use Rattle.dpl_language.specs.Tree.{ExprTree, Named, Grouped, DomainLiteral, Prefixed, Reduced, Chain, Postfixed, ItemTree, One, RangeItem, Stride, NoStride, By, Links, NoLinks, Link, Posts, NoPosts, Post, PostTree, Brackets, Rounds, Dotted, MethodTree, Plainly, Dim, Contains, Expand, CellRead, Items, FirstItem, MoreItems, NoItems, NextItem, Exprs, FirstExpr, MoreExprs, NoExprs, NextExpr}
 use Rattle.dpl_language.specs.Values.{Index}
 use Rattle.dpl_language.specs.Phrases.{Base, BaseName, BaseLocales, OtherBase, base_of, item_base}
 use Rattle.dpl_agreement.specs.Scopes.{items_in, fits_name, fits_element, fits_expr, fits_item, fits_stride, fits_links, fits_posts, fits_post, fits_method, fits_items, fits_more_items, fits_exprs, fits_more_exprs}
@@ -11,18 +11,14 @@ use Rattle.dpl_memory.specs.Resolved.{Bound, Seen, Resolves, Start, resolving}
 module _ {N : Type 0} (P : N → Type 0) where
   abbrev mutual
     pub NamesAre : ExprTree N → Type 0
-    NamesAre (Number at n) = Unit {0}
-    NamesAre (TruthWord at b) = Unit {0}
     NamesAre (Named x) = P x.name
-    NamesAre (LocalesWord at) = Unit {0}
-    NamesAre (LocaleCount at) = Unit {0}
-    NamesAre (HereWord at) = Unit {0}
     NamesAre (Grouped from item upto) = ItemNamesAre item
     NamesAre (DomainLiteral from items upto) = ItemsNamesAre items
     NamesAre (Prefixed at op e) = NamesAre e
     NamesAre (Reduced at op word e) = NamesAre e
     NamesAre (Chain e rest) = NamesAre e × LinksNamesAre rest
     NamesAre (Postfixed e posts) = NamesAre e × PostsNamesAre posts
+    NamesAre _ = Unit {0}
 
     pub ItemNamesAre : ItemTree N → Type 0
     ItemNamesAre (One e) = NamesAre e
@@ -78,18 +74,9 @@ module _ (start : Start) (g : Seen) where
 
   mutual
     base_is : (e : ExprTree Bound) → NamesAre Is e → BaseIs (base_of e)
-    base_is (Number at n) h = tt
-    base_is (TruthWord at b) h = tt
     base_is (Named x) h = h
-    base_is (LocalesWord at) h = tt
-    base_is (LocaleCount at) h = tt
-    base_is (HereWord at) h = tt
     base_is (Grouped from item upto) h = item_base_is item h
-    base_is (DomainLiteral from items upto) h = tt
-    base_is (Prefixed at op e) h = tt
-    base_is (Reduced at op word e) h = tt
-    base_is (Chain e rest) h = tt
-    base_is (Postfixed e posts) h = tt
+    base_is _ h = tt
 
     item_base_is : (i : ItemTree Bound) → ItemNamesAre Is i → BaseIs (item_base i)
     item_base_is (One e) h = base_is e h
@@ -106,18 +93,14 @@ module _ (start : Start) (g : Seen) where
 
   mutual
     pub expr_fits : (t : Option Index) (e : ExprTree Bound) → NamesAre Is e → fits_expr (resolving start) t e g
-    expr_fits t (Number at n) h = tt
-    expr_fits t (TruthWord at b) h = tt
     expr_fits t (Named x) h = name_fits t x.name h
-    expr_fits t (LocalesWord at) h = tt
-    expr_fits t (LocaleCount at) h = tt
-    expr_fits t (HereWord at) h = tt
     expr_fits t (Grouped from item upto) h = item_fits t item h
     expr_fits t (DomainLiteral from items upto) h = items_fit items h
     expr_fits t (Prefixed at op e) h = expr_fits t e h
     expr_fits t (Reduced at op word e) h = λ i. expr_fits (Some i) e h
     expr_fits t (Chain e rest) h = (expr_fits t e h.0, links_fit t rest h.1)
     expr_fits t (Postfixed e posts) h = (expr_fits None e h.0, posts_fit posts (base_of e) (base_is e h.0) h.1)
+    expr_fits t _ h = tt
 
     pub item_fits : (t : Option Index) (i : ItemTree Bound) → ItemNamesAre Is i → fits_item (resolving start) t i g
     item_fits t (One e) h = expr_fits t e h

@@ -11,7 +11,7 @@ use Rattle.dpl_language.specs.Names.{Text, Opened, Declared, Store}
 use Rattle.dpl_language.specs.Program.{own_content}
 use Rattle.dpl_agreement.proofs.Slots.{Sight as SlotSight, Bound as SlotBound, Mark, Name, slot_of, IsFresh, IsApart, without_frame as slots_without_frame, Slots, set_slot, spelled, SameIn, store_at, store_at-same, same_slot, other_slot}
 use Rattle.dpl_agreement.proofs.SlotDomains.{OverResolves, Overs, Overs-kept}
-use Rattle.dpl_memory.specs.Memory.{VariableKind, PlainKind, DomainKind, TupleKind, ArrayKind, CellKind, Memory, intended}
+use Rattle.dpl_memory.specs.Memory.{VariableKind, PlainKind, ArrayKind, Memory, intended}
 use Rattle.dpl_memory.specs.Resolved.{Shape, Bound, Sighted, Sight, Known, known_in, innermost, IsUnusedIn, IsUnused, bind, without_frame, text_of, content_in, entry_in, declared_in, own_store, store_in}
 use Rattle.dpl_memory.proofs.OfKind.{content_in-intend}
 
@@ -246,10 +246,7 @@ contents told s j = content_in (told j).kind j (told j).over s
 -- by itself
 content_in-own : (k : VariableKind) (slot : ℕ) (over : Option SlotBound) (s : Memory) → own_content (spelled (content_in k slot over s)) ≡ content_in k slot None s
 content_in-own (PlainKind k) slot over s = refl
-content_in-own DomainKind slot over s = refl
-content_in-own TupleKind slot over s = refl
-content_in-own (ArrayKind k) slot over s = refl
-content_in-own (CellKind k) slot over s = refl
+content_in-own _ slot over s = refl
 
 names-contents : (told : ℕ → Told) (slots : ℕ) (s : Memory) (bs : List Sighted) (g : SlotSight) (es : Store) → IsToldIn told slots bs → own_store (store_at (contents told s) g) ≡ es
     → own_store (store_at (contents told s) (with_names bs g)) ≡ declared_in s bs es
@@ -295,11 +292,8 @@ set_slot-each slot c m n here other j =
 
 -- WHICH DOMAINS ARRAYS ARE OVER is no matter of what the memory holds
 over-stays : (names : ℕ → Text) (k : VariableKind) (slot : ℕ) (over : Option SlotBound) (s u : Memory) (p : SlotSight) → OverResolves names (content_in k slot over s) p → OverResolves names (content_in k slot over u) p
-over-stays names (PlainKind k) slot over s u p r = tt
-over-stays names DomainKind slot over s u p r = tt
-over-stays names TupleKind slot over s u p r = tt
 over-stays names (ArrayKind k) slot over s u p r = r
-over-stays names (CellKind k) slot over s u p r = tt
+over-stays names _ slot over s u p r = tt
 
 pub Overs-contents : (names : ℕ → Text) (told : ℕ → Told) (s u : Memory) (g : SlotSight) → Overs names (contents told s) g → Overs names (contents told u) g
 Overs-contents names told s u g o = Overs-kept names (contents told s) (contents told u) (λ j p. over-stays names (told j).kind j (told j).over s u p) g o

@@ -133,18 +133,12 @@ Fit-without_frame [] h = tt
 Fit-without_frame (f ∷ fs) h = h.1
 
 fits-none : (k : VariableKind) → OverFits k None
-fits-none (PlainKind k) = refl
-fits-none DomainKind = refl
-fits-none TupleKind = refl
 fits-none (ArrayKind k) = tt
-fits-none (CellKind k) = refl
+fits-none _ = refl
 
 fits-whole : (k : VariableKind) (over : Option Bound) → IsWhole k → OverFits k over
-fits-whole (PlainKind k) over w = absurd w
-fits-whole DomainKind over w = absurd w
-fits-whole TupleKind over w = absurd w
 fits-whole (ArrayKind k) over w = tt
-fits-whole (CellKind k) over w = absurd w
+fits-whole _ over w = absurd w
 
 -- ONE CONTENT
 update_in-spelled : (op : Assign) (x : Bound) (g : Seen) (a b : Option Op) (v : Value) (c : Content SlotBound) → a ≡ paired x.text (renamed_intents text_of g.intents)
@@ -164,13 +158,8 @@ update_in-spelled op x g a b v (CellOf k c) p q i = refl
 
 -- the operator that reduces is one of the variable's kind
 intent-combines : (op : Assign) (x : Bound) (g : Seen) → IntentResolves op x.text x.variable g → op ≡ SetReduce → KindCombines x.variable.kind (intent_at x.variable.slot (intents_by_slot (renamed_intents variable_of g.intents)))
-intent-combines Set x g i e = cc
-intent-combines SetAdd x g i e = cc
-intent-combines SetSubtract x g i e = cc
-intent-combines SetMultiply x g i e = cc
-intent-combines SetDivide x g i e = cc
-intent-combines SetRemainder x g i e = cc
 intent-combines SetReduce x g i e = i.1
+intent-combines _ x g i e = cc
 
 -- a variable assigned: of a whole array nothing changes, since its elements are assigned one by one
 updated-content : (k : VariableKind) (slot : ℕ) (over : Option SlotBound) (op : Assign) (b : Option Op) (v : Value) (slots : ℕ) (s : Memory)
@@ -188,50 +177,32 @@ updated-content (CellKind k) slot over op b v slots s p h within = refl
 -- an element put: where the variable is no whole array nothing changes
 put-content : (k : VariableKind) (slot : ℕ) (over : Option SlotBound) (t : Index) (v : Value) (slots : ℕ) (s : Memory) → IsOf k v → AreWhole s → HasSlots slots s → slot < slots
     → with_element_at t v (content_in k slot over s) ≡ content_in k slot over (with_element_in k slot t v s)
-put-content (PlainKind k) slot over t v slots s p whole h within = refl
-put-content DomainKind slot over t v slots s p whole h within = refl
-put-content TupleKind slot over t v slots s p whole h within = refl
 put-content (ArrayKind k) slot over t v slots s p whole h within =
     ap (λ is. ArrayOf over k (array_at slot s).ranges (with_element t v is (map (element_as k) (array_at slot s).words))) (sym (whole slot))
     ∙ ap (λ vs. ArrayOf over k (array_at slot s).ranges vs) (with_element-words k t v (array_at slot s).keys (array_at slot s).words p)
     ∙ sym (content_in-array_same k slot over (held_with t (kept_number v) (array_at slot s)) slots s h within)
-put-content (CellKind k) slot over t v slots s p whole h within = refl
+put-content _ slot over t v slots s p whole h within = refl
 
 put-other : (j k : VariableKind) (i slot : ℕ) (over : Option SlotBound) (t : Index) (v : Value) (s : Memory) → i ≢ slot → content_in j i over (with_element_in k slot t v s) ≡ content_in j i over s
-put-other j (PlainKind k) i slot over t v s ne = refl
-put-other j DomainKind i slot over t v s ne = refl
-put-other j TupleKind i slot over t v s ne = refl
 put-other j (ArrayKind k) i slot over t v s ne = content_in-array_other j i slot over (held_with t (kept_number v) (array_at slot s)) s ne
-put-other j (CellKind k) i slot over t v s ne = refl
+put-other j _ i slot over t v s ne = refl
 
 slots-element : (k : VariableKind) (slot : ℕ) (t : Index) (v : Value) (slots : ℕ) (s : Memory) → HasSlots slots s → HasSlots slots (with_element_in k slot t v s)
-slots-element (PlainKind k) slot t v slots s h = h
-slots-element DomainKind slot t v slots s h = h
-slots-element TupleKind slot t v slots s h = h
 slots-element (ArrayKind k) slot t v slots s h = slots-array slot (held_with t (kept_number v) (array_at slot s)) slots s h
-slots-element (CellKind k) slot t v slots s h = h
+slots-element _ slot t v slots s h = h
 
 words-element : (k : VariableKind) (slot : ℕ) (t : Index) (v : Value) (s : Memory) → (with_element_in k slot t v s).words ≡ s.words
 words-element (PlainKind k) slot t v s = refl
-words-element DomainKind slot t v s = refl
-words-element TupleKind slot t v s = refl
-words-element (ArrayKind k) slot t v s = refl
-words-element (CellKind k) slot t v s = refl
+words-element _ slot t v s = refl
 
 name_value-spelled : (k : VariableKind) (slot : ℕ) (over : Option SlotBound) (s : Memory) → name_value (spelled (content_in k slot over s)) ≡ value_in k slot s
 name_value-spelled (PlainKind k) slot over s = refl
-name_value-spelled DomainKind slot over s = refl
-name_value-spelled TupleKind slot over s = refl
-name_value-spelled (ArrayKind k) slot over s = refl
-name_value-spelled (CellKind k) slot over s = refl
+name_value-spelled _ slot over s = refl
 
 element-spelled : (k : VariableKind) (slot : ℕ) (over : Option SlotBound) (t : Index) (s : Memory) → AreWhole s → element_in t (spelled (content_in k slot over s)) ≡ element_in_memory k slot t s
-element-spelled (PlainKind k) slot over t s whole = refl
-element-spelled DomainKind slot over t s whole = refl
-element-spelled TupleKind slot over t s whole = refl
 element-spelled (ArrayKind k) slot over t s whole =
     ap (λ is. element_at t is (map (element_as k) (array_at slot s).words)) (sym (whole slot)) ∙ element_at-words k t (array_at slot s).keys (array_at slot s).words
-element-spelled (CellKind k) slot over t s whole = refl
+element-spelled _ slot over t s whole = refl
 
 -- AN ARRAY DECLARED
 abbrev made : List TextRange → List Value → Held
@@ -239,33 +210,21 @@ made rs vs = whole_held rs (map kept_number vs)
 
 declared-content : (kind : VariableKind) (shape : Shape) (slot : ℕ) (over : Option SlotBound) (k : Kind) (rs : List TextRange) (vs : List Value) (slots : ℕ) (s : Memory) → MaySpan kind shape k rs → All (IsOf kind) vs → HasSlots slots s → slot < slots
     → content_in kind slot over (declared_array kind slot (made rs vs) s) ≡ ArrayOf over k rs vs
-declared-content (PlainKind l) shape slot over k rs vs slots s p q h within = absurd p
-declared-content DomainKind shape slot over k rs vs slots s p q h within = absurd p
-declared-content TupleKind shape slot over k rs vs slots s p q h within = absurd p
 declared-content (ArrayKind l) shape slot over k rs vs slots s p q h within =
     content_in-array_same l slot over (made rs vs) slots s h within ∙ ap (λ vs. ArrayOf over l rs vs) (elements-kept l vs q) ∙ ap (λ k. ArrayOf over k rs vs) (sym p.0)
-declared-content (CellKind l) shape slot over k rs vs slots s p q h within = absurd p
+declared-content _ shape slot over k rs vs slots s p q h within = absurd p
 
 declared-other : (j kind : VariableKind) (i slot : ℕ) (over : Option SlotBound) (a : Held) (s : Memory) → i ≢ slot → content_in j i over (declared_array kind slot a s) ≡ content_in j i over s
-declared-other j (PlainKind l) i slot over a s ne = refl
-declared-other j DomainKind i slot over a s ne = refl
-declared-other j TupleKind i slot over a s ne = refl
 declared-other j (ArrayKind l) i slot over a s ne = content_in-array_other j i slot over a s ne
-declared-other j (CellKind l) i slot over a s ne = refl
+declared-other j _ i slot over a s ne = refl
 
 slots-declared : (kind : VariableKind) (slot : ℕ) (a : Held) (slots : ℕ) (s : Memory) → HasSlots slots s → HasSlots slots (declared_array kind slot a s)
-slots-declared (PlainKind l) slot a slots s h = h
-slots-declared DomainKind slot a slots s h = h
-slots-declared TupleKind slot a slots s h = h
 slots-declared (ArrayKind l) slot a slots s h = slots-array slot a slots s h
-slots-declared (CellKind l) slot a slots s h = h
+slots-declared _ slot a slots s h = h
 
 words-declared : (kind : VariableKind) (slot : ℕ) (a : Held) (s : Memory) → (declared_array kind slot a s).words ≡ s.words
 words-declared (PlainKind l) slot a s = refl
-words-declared DomainKind slot a s = refl
-words-declared TupleKind slot a s = refl
-words-declared (ArrayKind l) slot a s = refl
-words-declared (CellKind l) slot a s = refl
+words-declared _ slot a s = refl
 
 -- SLOTS THAT BEGIN ANEW
 content_in-renewed_other : {N : Type 0} (k : VariableKind) (j slot : ℕ) (over : Option N) (s : Memory) → j ≢ slot → content_in k j over (renewed slot s) ≡ content_in k j over s
@@ -295,51 +254,33 @@ nameless slot = record { text = []; kind = PlainKind IntLeaf; slot = slot; shape
 -- WHAT A NAME MAY HOLD
 -- what an assignment makes of an element that is read
 changed-held : (k : VariableKind) (shape : Shape) (op : Assign) (slot : ℕ) (t : Index) (s : Memory) (old w : Value) → element_in_memory k slot t s ≡ Some old → kind_takes k op ≡ true → IsOf k w → MayHold k shape (assigned op None old w)
-changed-held (PlainKind k) shape op slot t s old w e takes p = cc
-changed-held DomainKind shape op slot t s old w e takes p = cc
-changed-held TupleKind shape op slot t s old w e takes p = cc
 changed-held (ArrayKind k) shape op slot t s old w e takes p = (assigned-element k op old w takes p, λ n. absurd (n tt))
-changed-held (CellKind k) shape op slot t s old w e takes p = cc
+changed-held _ shape op slot t s old w e takes p = cc
 
 -- the value of a right side that is evaluated once, of no whole array
 once-held : (k : VariableKind) (shape : Shape) (item : ItemTree Bound) (g : Seen) → (IsWhole k → ⊥) → SuitsKind k shape item g → GivesOnce k shape item g
-once-held (PlainKind k) shape item g n f = f
-once-held DomainKind shape item g n f = f
-once-held TupleKind shape item g n f = f
 once-held (ArrayKind k) shape item g n f = absurd (n tt)
-once-held (CellKind k) shape item g n f = f
+once-held _ shape item g n f = f
 
 -- of each name, where there is no whole array in it
 scalar-held : (k : VariableKind) (shape : Shape) (item : ItemTree Bound) (g : Seen) → HasNoArray item → SuitsKind k shape item g → GivesOnce k shape item g
-scalar-held (PlainKind k) shape item g n f = f
-scalar-held DomainKind shape item g n f = f
-scalar-held TupleKind shape item g n f = f
 scalar-held (ArrayKind k) shape item g n f = f.0 n
-scalar-held (CellKind k) shape item g n f = f
+scalar-held _ shape item g n f = f
 
 -- the value of a turn, of whole arrays
 turn-held : (limits : Limits) (k : VariableKind) (shape : Shape) (item : ItemTree Bound) (g : Seen) (s : Memory) (t : Index) (v : Value) → IsShaped g s → IsWhole k → SuitsKind k shape item g
     → item_of limits in_memory (renamed_item variable_of item) (Some t) s ≡ Ok v → MayHold k shape v
-turn-held limits (PlainKind k) shape item g s t v shaped whole f e = absurd whole
-turn-held limits DomainKind shape item g s t v shaped whole f e = absurd whole
-turn-held limits TupleKind shape item g s t v shaped whole f e = absurd whole
 turn-held limits (ArrayKind k) shape item g s t v shaped whole f e = (f.1 limits s shaped t v e, λ n. absurd (n tt))
-turn-held limits (CellKind k) shape item g s t v shaped whole f e = absurd whole
+turn-held limits _ shape item g s t v shaped whole f e = absurd whole
 
 -- what the command line gives
 given-alike : (k : VariableKind) (x : Bound) (start : Start) (s : Memory) → s.words.sets ≡ start.words → IsGivenAs k x start → paired x.text start.texts ≡ given_in k x.variable.slot s
 given-alike (PlainKind k) x start s e g = g ∙ ap (λ ws. option_map (given_as k) (set_at x.variable.slot ws)) (sym e)
-given-alike DomainKind x start s e g = absurd g
-given-alike TupleKind x start s e g = absurd g
-given-alike (ArrayKind k) x start s e g = absurd g
-given-alike (CellKind k) x start s e g = absurd g
+given-alike _ x start s e g = absurd g
 
 given-held : (k : VariableKind) (shape : Shape) (slot : ℕ) (s : Memory) (v : Value) → given_in k slot s ≡ Some v → MayHold k shape v
 given-held (PlainKind k) shape slot s v e = (given-kind k (set_at slot s.words.sets) v e, λ n. given-shaped k shape (set_at slot s.words.sets) v e)
-given-held DomainKind shape slot s v e = cc
-given-held TupleKind shape slot s v e = cc
-given-held (ArrayKind k) shape slot s v e = cc
-given-held (CellKind k) shape slot s v e = cc
+given-held _ shape slot s v e = cc
 
 -- the value of a reply is one of its cell's kind
 reply-element : (k : Kind) (a : Reply) → IsElement k (reply_value k a)
@@ -350,11 +291,8 @@ reply-element BoolKind NoValue = (false, refl)
 
 -- the arrays that stand with a domain are those over it
 arrays-known : (k : VariableKind) (x : Bound) (g : Seen) → k ≡ DomainKind → ArraysResolve k x g → x.variable.along ≡ arrays_over x.variable.slot g.frames
-arrays-known (PlainKind k) x g e a = cc
 arrays-known DomainKind x g e a = a
-arrays-known TupleKind x g e a = cc
-arrays-known (ArrayKind k) x g e a = cc
-arrays-known (CellKind k) x g e a = cc
+arrays-known _ x g e a = cc
 
 top_level-own : (t : Store) → own_frame (top_level t) ≡ top_level (own_store t)
 top_level-own [] = refl
@@ -611,11 +549,8 @@ module _ (start : Start) where
   )
     where
       by : (k : VariableKind) → (k ≡ DomainKind → y.shape ≡ shape) → KnownBy k (r.told y.variable.slot).shape (placed y) (if_domain k y) shape
-      by (PlainKind l) h = refl
       by DomainKind h = (refl, (finds y g s1 s2 r o.0).shape ∙ h refl)
-      by TupleKind h = refl
-      by (ArrayKind l) h = refl
-      by (CellKind l) h = refl
+      by _ h = refl
 
   over_shaped : (x : Bound) (form : Form Bound) (g : Seen) (s1 : State) (s2 : Memory) (r : Kept start g s1 s2) → IsUnused x.variable.slot g.frames → OverIsFound (written_over form) x.shape g
       → OverKnown (with_told x.variable.slot (told_as x form) r.told) (with_told x.variable.slot (told_as x form) r.told x.variable.slot).over (over_of form) x.shape (bind (sighted x form) g.frames)

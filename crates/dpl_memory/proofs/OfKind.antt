@@ -4,7 +4,7 @@ use Rattle.std.proofs.Common.{◌≡◌, ◌≢◌, ℕ, ◌<◌, ℤ, true, Lis
 use Rattle.std.specs.Prelude.{get_or, set}
 use Rattle.std.proofs.lemmas.List.{get_or-set_same, get_or-set_other, length-set}
 use Rattle.dpl_sets.specs.TextRanges.{TextRange}
-use Rattle.dpl_language.specs.Tree.{Op, Kind, Assign, Set, SetAdd, SetSubtract, SetMultiply, SetDivide, SetRemainder, SetReduce}
+use Rattle.dpl_language.specs.Tree.{Op, Kind, Assign, Set, SetReduce}
 use Rattle.dpl_language.specs.Values.{Value, Domain, Tuple, ranges_in, coordinates, array_domain, is_domain}
 use Rattle.dpl_language.specs.Arithmetic.{assigned}
 use Rattle.dpl_language.specs.Environment.{Plain}
@@ -30,28 +30,24 @@ pub content_in-set_other : {N : Type 0} (j k : VariableKind) (i slot : ℕ) (ove
 content_in-set_other (PlainKind j) (PlainKind k) i slot over v s ne = ap (λ w. Plain w) (value_at-set_other j k i slot v s.words ne)
 content_in-set_other (PlainKind j) DomainKind i slot over v s ne = refl
 content_in-set_other (PlainKind j) TupleKind i slot over v s ne = refl
-content_in-set_other (PlainKind j) (ArrayKind k) i slot over v s ne = refl
 content_in-set_other (PlainKind j) (CellKind k) i slot over v s ne = refl
 content_in-set_other DomainKind (PlainKind k) i slot over v s ne = refl
 content_in-set_other DomainKind DomainKind i slot over v s ne = ap (λ rs. Plain (Domain rs)) (get_or-set_other s.domains slot i (ranges_in v) no_domain ne)
 content_in-set_other DomainKind TupleKind i slot over v s ne = refl
-content_in-set_other DomainKind (ArrayKind k) i slot over v s ne = refl
 content_in-set_other DomainKind (CellKind k) i slot over v s ne = refl
 content_in-set_other TupleKind (PlainKind k) i slot over v s ne = refl
 content_in-set_other TupleKind DomainKind i slot over v s ne = refl
 content_in-set_other TupleKind TupleKind i slot over v s ne = ap (λ t. Plain (Tuple t)) (get_or-set_other s.tuples slot i (coordinates v) no_tuple ne)
-content_in-set_other TupleKind (ArrayKind k) i slot over v s ne = refl
 content_in-set_other TupleKind (CellKind k) i slot over v s ne = refl
 content_in-set_other (ArrayKind j) (PlainKind k) i slot over v s ne = refl
 content_in-set_other (ArrayKind j) DomainKind i slot over v s ne = refl
 content_in-set_other (ArrayKind j) TupleKind i slot over v s ne = refl
-content_in-set_other (ArrayKind j) (ArrayKind k) i slot over v s ne = refl
 content_in-set_other (ArrayKind j) (CellKind k) i slot over v s ne = refl
 content_in-set_other (CellKind j) (PlainKind k) i slot over v s ne = refl
 content_in-set_other (CellKind j) DomainKind i slot over v s ne = refl
 content_in-set_other (CellKind j) TupleKind i slot over v s ne = refl
-content_in-set_other (CellKind j) (ArrayKind k) i slot over v s ne = refl
 content_in-set_other (CellKind j) (CellKind k) i slot over v s ne = refl
+content_in-set_other _ (ArrayKind k) i slot over v s ne = refl
 
 -- AN ARRAY THAT IS PUT
 pub content_in-array_same : {N : Type 0} (k : Kind) (slot : ℕ) (over : Option N) (a : Held) (slots : ℕ) (s : Memory) → HasSlots slots s → slot < slots
@@ -59,27 +55,18 @@ pub content_in-array_same : {N : Type 0} (k : Kind) (slot : ℕ) (over : Option 
 content_in-array_same k slot over a slots s h within = ap (array_content over k) (get_or-set_same s.arrays slot a no_array (subst (λ n. slot < n) (sym h.arrays) within))
 
 pub content_in-array_other : {N : Type 0} (j : VariableKind) (i slot : ℕ) (over : Option N) (a : Held) (s : Memory) → i ≢ slot → content_in j i over (with_array slot a s) ≡ content_in j i over s
-content_in-array_other (PlainKind j) i slot over a s ne = refl
-content_in-array_other DomainKind i slot over a s ne = refl
-content_in-array_other TupleKind i slot over a s ne = refl
 content_in-array_other (ArrayKind j) i slot over a s ne = ap (array_content over j) (get_or-set_other s.arrays slot i a no_array ne)
-content_in-array_other (CellKind j) i slot over a s ne = refl
+content_in-array_other _ i slot over a s ne = refl
 
 -- reduce variables are no contents of slots
 pub content_in-intend : {N : Type 0} (j : VariableKind) (i : ℕ) (over : Option N) (is : List (ℕ × Op)) (s : Memory) → content_in j i over s ≡ content_in j i over (intended is s)
 content_in-intend (PlainKind j) i over is s = ap (λ w. Plain w) (value_at-intend j i is s.words)
-content_in-intend DomainKind i over is s = refl
-content_in-intend TupleKind i over is s = refl
-content_in-intend (ArrayKind j) i over is s = refl
-content_in-intend (CellKind j) i over is s = refl
+content_in-intend _ i over is s = refl
 
 -- nor are the number of `here`, and what is to come
 pub content_in-moved : {N : Type 0} (j : VariableKind) (i : ℕ) (over : Option N) (k : ℤ) (c : Coming) (s : Memory) → content_in j i over s ≡ content_in j i over (record s { here = k; coming = c })
 content_in-moved (PlainKind j) i over k c s = refl
-content_in-moved DomainKind i over k c s = refl
-content_in-moved TupleKind i over k c s = refl
-content_in-moved (ArrayKind j) i over k c s = refl
-content_in-moved (CellKind j) i over k c s = refl
+content_in-moved _ i over k c s = refl
 
 pub slots-moved : (slots : ℕ) (k : ℤ) (c : Coming) (s : Memory) → HasSlots slots s → HasSlots slots (record s { here = k; coming = c })
 slots-moved slots k c s h = record {
@@ -132,17 +119,11 @@ slots-array slot a slots s h = record {
 
 pub intents-set_in : (k : VariableKind) (slot : ℕ) (v : Value) (s : Memory) → (with_value_in k slot v s).words.intents ≡ s.words.intents
 intents-set_in (PlainKind k) slot v s = intents-set k slot v s.words
-intents-set_in DomainKind slot v s = refl
-intents-set_in TupleKind slot v s = refl
-intents-set_in (ArrayKind k) slot v s = refl
-intents-set_in (CellKind k) slot v s = refl
+intents-set_in _ slot v s = refl
 
 pub sets-set_in : (k : VariableKind) (slot : ℕ) (v : Value) (s : Memory) → (with_value_in k slot v s).words.sets ≡ s.words.sets
 sets-set_in (PlainKind k) slot v s = sets-set k slot v s.words
-sets-set_in DomainKind slot v s = refl
-sets-set_in TupleKind slot v s = refl
-sets-set_in (ArrayKind k) slot v s = refl
-sets-set_in (CellKind k) slot v s = refl
+sets-set_in _ slot v s = refl
 
 -- KINDS, by what a variable's value is
 pub value_in-array : (k : VariableKind) (slot : ℕ) (s : Memory) (rs : List TextRange) → array_domain (value_in k slot s) ≡ Some rs → IsWhole k
@@ -154,11 +135,8 @@ value_in-array (CellKind k) slot s rs = λ e. cc
 
 -- a variable that is no whole array is of no array's kind
 pub value_in-plain : (k : VariableKind) (slot : ℕ) (s : Memory) → array_domain (value_in k slot s) ≡ None → IsWhole k → ⊥
-value_in-plain (PlainKind k) slot s e w = w
-value_in-plain DomainKind slot s e w = w
-value_in-plain TupleKind slot s e w = w
 value_in-plain (ArrayKind k) slot s e w = let f : Some (array_at slot s).ranges ≡ None = e in cc
-value_in-plain (CellKind k) slot s e w = w
+value_in-plain _ slot s e w = w
 
 pub value_in-domain : (k : VariableKind) (slot : ℕ) (s : Memory) → is_domain (value_in k slot s) ≡ true → k ≡ DomainKind
 value_in-domain (PlainKind k) slot s = λ e. absurd (value_at-no_domain k slot s.words e)
@@ -170,12 +148,7 @@ value_in-domain (CellKind k) slot s = λ e. cc
 -- ASSIGNMENTS to variables that are no whole arrays
 only_set : (k : VariableKind) (op : Assign) (o : Option Op) (old v : Value) → kind_takes DomainKind op ≡ true → IsOf k v → IsOf k (assigned op o old v)
 only_set k Set o old v t p = p
-only_set k SetAdd o old v t p = cc
-only_set k SetSubtract o old v t p = cc
-only_set k SetMultiply o old v t p = cc
-only_set k SetDivide o old v t p = cc
-only_set k SetRemainder o old v t p = cc
-only_set k SetReduce o old v t p = cc
+only_set k _ o old v t p = cc
 
 pub assigned-of : (k : VariableKind) (op : Assign) (o : Option Op) (old v : Value) → (IsWhole k → ⊥) → kind_takes k op ≡ true → (op ≡ SetReduce → KindCombines k o) → IsOf k v → IsOf k (assigned op o old v)
 assigned-of (PlainKind k) op o old v n t c p = assigned-kind k op o old v t c p

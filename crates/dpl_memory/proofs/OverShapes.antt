@@ -28,11 +28,8 @@ used-bound slot x fs h j u = h j (unused-unbound j x fs u)
 -- WHAT AN ARRAY IS OVER, as it is told: nothing, or a name whose slot is in sight. That of a domain is what is in sight of the
 -- array, and it has the array's shape; of another name, as a range's, nothing is in sight.
 abbrev pub KnownBy : VariableKind → Shape → SlotBound → Option Bound → Shape → Type 0
-KnownBy (PlainKind k) own z known shape = known ≡ None
 KnownBy DomainKind own z known shape = (placed_over known ≡ Some z) × (own ≡ shape)
-KnownBy TupleKind own z known shape = known ≡ None
-KnownBy (ArrayKind k) own z known shape = known ≡ None
-KnownBy (CellKind k) own z known shape = known ≡ None
+KnownBy _ own z known shape = known ≡ None
 
 abbrev pub OverKnown : (ℕ → Told) → Option SlotBound → Option Bound → Shape → Sight → Type 0
 OverKnown told None known shape fs = known ≡ None
@@ -131,11 +128,8 @@ module _ (told : ℕ → Told) (slot : ℕ) (domain : (told slot).kind ≡ Domai
       not_over none = absurd (let f : false ≡ true = sym (ap (is_over slot) none) ∙ e in cc)
 
       by : (k : VariableKind) → KnownBy k (told z.slot).shape z known shape → shape ≡ (told slot).shape
-      by (PlainKind l) h = not_over h
       by DomainKind h = sym h.1 ∙ ap (λ j. (told j).shape) (sym same)
-      by TupleKind h = not_over h
-      by (ArrayKind l) h = not_over h
-      by (CellKind l) h = not_over h
+      by _ h = not_over h
 
   either : (j i : ℕ) (c : Bool) → IsAlike i → (c ≡ true → IsAlike j) → ((j == i) || c) ≡ true → IsAlike j
   either j i c here rest =

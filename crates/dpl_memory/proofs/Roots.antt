@@ -17,24 +17,15 @@ use Rattle.dpl_memory.proofs.Wholes.{AreWhole}
 -- WHAT CHANGES NO ROOT
 pub roots-set_in : (k : VariableKind) (slot : ℕ) (v : Value) (s : Memory) → (with_value_in k slot v s).roots ≡ s.roots
 roots-set_in (PlainKind k) slot v s = refl
-roots-set_in DomainKind slot v s = refl
-roots-set_in TupleKind slot v s = refl
-roots-set_in (ArrayKind k) slot v s = refl
-roots-set_in (CellKind k) slot v s = refl
+roots-set_in _ slot v s = refl
 
 pub roots-element : (k : VariableKind) (slot : ℕ) (t : Index) (v : Value) (s : Memory) → (with_element_in k slot t v s).roots ≡ s.roots
 roots-element (PlainKind k) slot t v s = refl
-roots-element DomainKind slot t v s = refl
-roots-element TupleKind slot t v s = refl
-roots-element (ArrayKind k) slot t v s = refl
-roots-element (CellKind k) slot t v s = refl
+roots-element _ slot t v s = refl
 
 pub roots-array : (k : VariableKind) (slot : ℕ) (a : Held) (s : Memory) → (declared_array k slot a s).roots ≡ s.roots
 roots-array (PlainKind k) slot a s = refl
-roots-array DomainKind slot a s = refl
-roots-array TupleKind slot a s = refl
-roots-array (ArrayKind k) slot a s = refl
-roots-array (CellKind k) slot a s = refl
+roots-array _ slot a s = refl
 
 pub roots-redomained : (x : Variable) (rs : List TextRange) (s : Memory) → (redomained_in x rs s).roots ≡ s.roots
 roots-redomained x rs s = roots-set_in x.kind x.slot (Domain rs) s
@@ -57,18 +48,12 @@ far-set_in (ArrayKind k) slot v s = as_far s
 far-set_in (CellKind k) slot v s = as_far s
 
 pub far-element : (k : VariableKind) (slot : ℕ) (t : Index) (v : Value) (s : Memory) → IsAsFar (with_element_in k slot t v s) s
-far-element (PlainKind k) slot t v s = as_far s
-far-element DomainKind slot t v s = as_far s
-far-element TupleKind slot t v s = as_far s
 far-element (ArrayKind k) slot t v s = record { cells = refl; here = refl; coming = refl }
-far-element (CellKind k) slot t v s = as_far s
+far-element _ slot t v s = as_far s
 
 pub far-array : (k : VariableKind) (slot : ℕ) (a : Held) (s : Memory) → IsAsFar (declared_array k slot a s) s
-far-array (PlainKind k) slot a s = as_far s
-far-array DomainKind slot a s = as_far s
-far-array TupleKind slot a s = as_far s
 far-array (ArrayKind k) slot a s = record { cells = refl; here = refl; coming = refl }
-far-array (CellKind k) slot a s = as_far s
+far-array _ slot a s = as_far s
 
 pub far-redomained : (x : Variable) (rs : List TextRange) (s : Memory) → IsAsFar (redomained_in x rs s) s
 far-redomained x rs s =
@@ -85,10 +70,7 @@ far-undealt (CellKind k) slot s u far = far
 -- A ROOT IN A SLOT, which is no content of one
 pub content_in-root : {N : Type 0} (j : VariableKind) (i : ℕ) (over : Option N) (slot : ℕ) (r : Root) (s : Memory) → content_in j i over (with_root slot r s) ≡ content_in j i over s
 content_in-root (PlainKind j) i over slot r s = refl
-content_in-root DomainKind i over slot r s = refl
-content_in-root TupleKind i over slot r s = refl
-content_in-root (ArrayKind j) i over slot r s = refl
-content_in-root (CellKind j) i over slot r s = refl
+content_in-root _ i over slot r s = refl
 
 pub slots-root : (slot : ℕ) (r : Root) (slots : ℕ) (s : Memory) → HasSlots slots s → HasSlots slots (with_root slot r s)
 slots-root slot r slots s h = record {
@@ -145,20 +127,14 @@ module _ (k : VariableKind) (slot : ℕ) (s : Memory) where
     where
       by : (k : VariableKind) → (undealt k slot s).words ≡ s.words
       by (PlainKind l) = refl
-      by DomainKind = refl
-      by TupleKind = refl
-      by (ArrayKind l) = refl
-      by (CellKind l) = refl
+      by _ = refl
 
   pub value_in-undealt : value_in k slot (undealt k slot s) ≡ value_in k slot s
   value_in-undealt = by k
     where
       by : (k : VariableKind) → value_in k slot (undealt k slot s) ≡ value_in k slot s
       by (PlainKind l) = refl
-      by DomainKind = refl
-      by TupleKind = refl
-      by (ArrayKind l) = refl
-      by (CellKind l) = refl
+      by _ = refl
 
   pub whole-undealt : AreWhole s → AreWhole (undealt k slot s)
   whole-undealt h = by k

@@ -5,7 +5,7 @@ use Rattle.std.specs.Prelude.{◌==◌, option_map}
 use Rattle.std.proofs.lemmas.Bool.Decides.{Decides-eqb}
 use Rattle.std.proofs.lemmas.List.{get_or-set_same}
 use Rattle.dpl_sets.specs.TextRanges.{TextRange}
-use Rattle.dpl_language.specs.Tree.{Op, Kind, Assign, Set, SetAdd, SetSubtract, SetMultiply, SetDivide, SetRemainder, SetReduce}
+use Rattle.dpl_language.specs.Tree.{Op, Kind, Assign, Set, SetReduce}
 use Rattle.dpl_language.specs.Values.{Value, Range, Array, Cell, Index, kept_number}
 use Rattle.dpl_language.specs.Arithmetic.{assigned}
 use Rattle.dpl_language.specs.Environment.{Content, Plain, ArrayOf, CellOf}
@@ -41,10 +41,7 @@ content_value (CellOf k c) = Cell k
 
 value_in-content : (k : VariableKind) (j : ℕ) (s : Memory) → content_value (content_in k j None s) ≡ value_in k j s
 value_in-content (PlainKind k) j s = refl
-value_in-content DomainKind j s = refl
-value_in-content TupleKind j s = refl
-value_in-content (ArrayKind k) j s = refl
-value_in-content (CellKind k) j s = refl
+value_in-content _ j s = refl
 
 content-same : (k : VariableKind) (j : ℕ) (s u : Memory) → content_in {N = SlotBound} k j None u ≡ content_in {N = SlotBound} k j None s → value_in k j s ≡ value_in k j u
 content-same k j s u e = sym (value_in-content k j s) ∙ ap content_value (sym e) ∙ value_in-content k j u
@@ -89,37 +86,25 @@ shaped-set (CellKind k) shape slot v slots s p q old h within = tt
 -- ASSIGNMENTS: ranges, domains and tuples are given what stands on the right side
 only_set : (k : VariableKind) (shape : Shape) (op : Assign) (o : Option Op) (old v : Value) → kind_takes DomainKind op ≡ true → HasShape k shape v → HasShape k shape (assigned op o old v)
 only_set k shape Set o old v t p = p
-only_set k shape SetAdd o old v t p = cc
-only_set k shape SetSubtract o old v t p = cc
-only_set k shape SetMultiply o old v t p = cc
-only_set k shape SetDivide o old v t p = cc
-only_set k shape SetRemainder o old v t p = cc
-only_set k shape SetReduce o old v t p = cc
+only_set k shape _ o old v t p = cc
 
 range_set : (shape : Shape) (op : Assign) (o : Option Op) (old v : Value) → kind_takes (PlainKind RangeLeaf) op ≡ true → (op ≡ SetReduce → KindCombines (PlainKind RangeLeaf) o)
     → HasShape (PlainKind RangeLeaf) shape v → HasShape (PlainKind RangeLeaf) shape (assigned op o old v)
 range_set shape Set o old v t c p = p
-range_set shape SetAdd o old v t c p = cc
-range_set shape SetSubtract o old v t c p = cc
-range_set shape SetMultiply o old v t c p = cc
-range_set shape SetDivide o old v t c p = cc
-range_set shape SetRemainder o old v t c p = cc
 range_set shape SetReduce o old v t c p = by o (c refl)
   where
     by : (o : Option Op) → KindCombines (PlainKind RangeLeaf) o → HasShape (PlainKind RangeLeaf) shape (assigned SetReduce o old v)
     by None c = p
     by (Some op) c = cc
+range_set shape _ o old v t c p = cc
 
 pub assigned-shaped : (k : VariableKind) (shape : Shape) (op : Assign) (o : Option Op) (old v : Value) → kind_takes k op ≡ true → (op ≡ SetReduce → KindCombines k o)
     → ((IsWhole k → ⊥) → HasShape k shape v) → (IsWhole k → ⊥) → HasShape k shape (assigned op o old v)
-assigned-shaped (PlainKind IntLeaf) shape op o old v t c p n = tt
-assigned-shaped (PlainKind TruthLeaf) shape op o old v t c p n = tt
 assigned-shaped (PlainKind RangeLeaf) shape op o old v t c p n = range_set shape op o old v t c (p n)
-assigned-shaped (PlainKind LocaleLeaf) shape op o old v t c p n = tt
 assigned-shaped DomainKind shape op o old v t c p n = only_set DomainKind shape op o old v t (p n)
 assigned-shaped TupleKind shape op o old v t c p n = only_set TupleKind shape op o old v t (p n)
 assigned-shaped (ArrayKind k) shape op o old v t c p n = absurd (n tt)
-assigned-shaped (CellKind k) shape op o old v t c p n = tt
+assigned-shaped _ shape op o old v t c p n = tt
 
 -- AN ARRAY PUT into its slot has its domain there
 array-shaped : (shape : Shape) (slot : ℕ) (a : Held) (slots : ℕ) (s : Memory) → AreRanked shape.rank shape.strided a.ranges → HasSlots slots s → slot < slots
@@ -130,19 +115,13 @@ array-shaped shape slot a slots s p h within =
 -- with another element, and declared
 pub shaped-element : (k : VariableKind) (shape : Shape) (slot : ℕ) (t : Index) (v : Value) (slots : ℕ) (s : Memory) → HasSlots slots s → slot < slots
     → HasShape k shape (value_in k slot s) → HasShape k shape (value_in k slot (with_element_in k slot t v s))
-shaped-element (PlainKind k) shape slot t v slots s n within h = h
-shaped-element DomainKind shape slot t v slots s n within h = h
-shaped-element TupleKind shape slot t v slots s n within h = h
 shaped-element (ArrayKind k) shape slot t v slots s n within h = array-shaped shape slot (held_with t (kept_number v) (array_at slot s)) slots s h n within
-shaped-element (CellKind k) shape slot t v slots s n within h = h
+shaped-element _ shape slot t v slots s n within h = h
 
 pub shaped-array : (kind : VariableKind) (shape : Shape) (slot : ℕ) (k : Kind) (a : Held) (slots : ℕ) (s : Memory) → MaySpan kind shape k a.ranges → HasSlots slots s → slot < slots
     → HasShape kind shape (value_in kind slot (declared_array kind slot a s))
-shaped-array (PlainKind l) shape slot k a slots s h n within = absurd h
-shaped-array DomainKind shape slot k a slots s h n within = absurd h
-shaped-array TupleKind shape slot k a slots s h n within = absurd h
 shaped-array (ArrayKind l) shape slot k a slots s h n within = array-shaped shape slot a slots s h.1 n within
-shaped-array (CellKind l) shape slot k a slots s h n within = absurd h
+shaped-array _ shape slot k a slots s h n within = absurd h
 
 -- THE ARRAYS IN SOME SLOTS get another domain, which is of the shape of each
 pub shaped-redomained : (t : Told) (j : ℕ) (xs : List ℕ) (rs : List TextRange) (s : Memory) → (is_among j xs ≡ true → AreRanked t.shape.rank t.shape.strided rs)

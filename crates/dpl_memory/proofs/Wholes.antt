@@ -7,7 +7,7 @@ use Rattle.dpl_sets.specs.Indices.{indices}
 use Rattle.dpl_sets.specs.Members.{members}
 use Rattle.dpl_language.specs.Values.{Value, Index}
 use Rattle.dpl_language.specs.Ranges.{indices_in}
-use Rattle.dpl_memory.specs.Memory.{VariableKind, PlainKind, DomainKind, TupleKind, ArrayKind, CellKind, Variable, Held, Memory, no_array, array_at, is_among, held_over_if, redomained_from, redomained_in, with_value_in, with_element_in, with_array, declared_array}
+use Rattle.dpl_memory.specs.Memory.{VariableKind, PlainKind, ArrayKind, Variable, Held, Memory, no_array, array_at, is_among, held_over_if, redomained_from, redomained_in, with_value_in, with_element_in, with_array, declared_array}
 
 abbrev pub IsWholeArray : Held → Type 0
 IsWholeArray a = a.keys ≡ indices_in a.ranges
@@ -28,24 +28,15 @@ whole-array slot a s here h = each-set s.arrays slot a no_array here h
 
 pub whole-set : (k : VariableKind) (slot : ℕ) (v : Value) (s : Memory) → AreWhole s → AreWhole (with_value_in k slot v s)
 whole-set (PlainKind k) slot v s h = h
-whole-set DomainKind slot v s h = h
-whole-set TupleKind slot v s h = h
-whole-set (ArrayKind k) slot v s h = h
-whole-set (CellKind k) slot v s h = h
+whole-set _ slot v s h = h
 
 pub whole-element : (k : VariableKind) (slot : ℕ) (t : Index) (v : Value) (s : Memory) → AreWhole s → AreWhole (with_element_in k slot t v s)
-whole-element (PlainKind k) slot t v s h = h
-whole-element DomainKind slot t v s h = h
-whole-element TupleKind slot t v s h = h
 whole-element (ArrayKind k) slot t v s h = whole-array slot _ s (h slot) h
-whole-element (CellKind k) slot t v s h = h
+whole-element _ slot t v s h = h
 
 pub whole-declared : (k : VariableKind) (slot : ℕ) (a : Held) (s : Memory) → IsWholeArray a → AreWhole s → AreWhole (declared_array k slot a s)
-whole-declared (PlainKind k) slot a s here h = h
-whole-declared DomainKind slot a s here h = h
-whole-declared TupleKind slot a s here h = h
 whole-declared (ArrayKind k) slot a s here h = whole-array slot a s here h
-whole-declared (CellKind k) slot a s here h = h
+whole-declared _ slot a s here h = h
 
 -- another domain, for those in some slots
 over-whole : (c : Bool) (rs : List TextRange) (a : Held) → IsWholeArray a → IsWholeArray (held_over_if c rs a)

@@ -26,7 +26,7 @@ use Rattle.dpl_nodes.specs.declared.fold.IntFold.{IntFold}
 use Rattle.dpl_nodes.specs.declared.fold.IntFold.TheVariants as ints
 use Rattle.dpl_nodes.specs.declared.fold.TruthFold.{TruthFold}
 use Rattle.dpl_nodes.specs.declared.fold.TruthFold.TheVariants as truths
-use Rattle.dpl_nodes.specs.declared.tree.IntExpr.{IntExpr, Number as NumberNode, Local as IntLocal, Negative', Sum', Difference', Product', Quotient', Remainder', Size', First', Last', Low', High', Count', Element', Reduced' as IntReduced'}
+use Rattle.dpl_nodes.specs.declared.tree.IntExpr.{IntExpr, Number as NumberNode, Local as IntLocal, Negative', Sum', Difference', Product', Quotient', Remainder', First', Last', Low', High', Element', Reduced' as IntReduced'}
 use Rattle.dpl_nodes.specs.declared.tree.BoolExpr.{BoolExpr, Truth as TruthNode, Local as TruthLocal, Not', And', Or', Same', Differ', Compare as CompareNode, Contains as ContainsNode, HasIndex as HasIndexNode, Element as TruthElement, Reduced' as TruthReduced'}
 use Rattle.dpl_nodes.specs.declared.tree.RangeExpr.{RangeExpr, Local as RangeLocal, Between', Slice', Dimension'}
 use Rattle.dpl_nodes.specs.declared.tree.Stride.{Stride as StrideNode, Absent, By'}
@@ -203,18 +203,17 @@ module _ (limits : Limits) (s : Memory) where
   int_gives (Product' p a q b) = int_two (λ v w. wrap (number v *ℤ number w)) (value (int_view a)) (value (int_view b)) false nowhere
   int_gives (Quotient' p a q b at) = int_two (λ v w. wrap (int_div (number v) (number w))) (value (int_view a)) (value (int_view b)) true at.now
   int_gives (Remainder' p a q b at) = int_two (λ v w. wrap (int_rem (number v) (number w))) (value (int_view a)) (value (int_view b)) true at.now
-  int_gives (Size' p r) = int_one (λ v. pos (size_in (ranges_in v))) (value (range_view r))
   int_gives (First' p r at) = ended at.now first_of (value (range_view r))
   int_gives (Last' p r at) = ended at.now last_of (value (range_view r))
   int_gives (Low' p r at) = least at.now (value (range_view r)) (range_gives r)
   int_gives (High' p r at) = ended at.now greatest_of (value (range_view r))
-  int_gives (Count' p d) = int_one (λ v. pos (size_in (ranges_in v))) (value (domain_view d))
   int_gives (Element' slot p t at) =
       elements IntLeaf (λ vs. found at.now (option_map (element_as IntKind) (held_at (index_of vs) (array_at slot s))))
       (λ vs. int_found at.now (held_at (index_of vs) (array_at slot s))) (items_of limits in_memory (index_items t) s)
   int_gives (IntReduced' f p e at) =
       reduction-gives IntLeaf (int_fold_view f) (int_unit f) (ints_combined f) limits.budget at.now (λ t. value_of limits in_memory (promoted_int EachTurn e) (Some t) s)
       (whole_in limits in_memory (promoted_int EachTurn e) s)
+  int_gives _ = int_one _ _
 
   pub item_gives : (e : RangeExpr) → Gives RangeLeaf (item_of limits in_memory (range_item e) None s)
   item_gives (RangeLocal slot) = range_gives (RangeLocal slot)

@@ -12,8 +12,8 @@ use Rattle.dpl_language.specs.Expressions.{whole_in, value_of}
 use Rattle.dpl_lowered.specs.Shapes.{nowhere, two}
 use Rattle.dpl_lowered.specs.LoweredExpressions.{Times}
 use Rattle.dpl_memory.specs.Memory.{Variable, Memory, in_memory, array_at}
-use Rattle.dpl_nodes.specs.declared.tree.IntExpr.{IntExpr, Number, Local as IntLocal, Negative' as IntNegative', Sum' as IntSum', Difference' as IntDifference', Product' as IntProduct', Quotient' as IntQuotient', Remainder' as IntRemainder', Size', First', Last', Low', High', Count', Element', Reduced' as IntReduced'}
-use Rattle.dpl_nodes.specs.declared.tree.BoolExpr.{BoolExpr, Truth as TruthNode, Local as TruthLocal, Not' as TruthNot', And' as TruthAnd', Or' as TruthOr', Same' as TruthSame', Differ' as TruthDiffer', Compare as TruthCompare, Contains, HasIndex, Element as TruthAt, Reduced' as TruthReduced'}
+use Rattle.dpl_nodes.specs.declared.tree.IntExpr.{IntExpr, Negative' as IntNegative', Sum' as IntSum', Difference' as IntDifference', Product' as IntProduct', Quotient' as IntQuotient', Remainder' as IntRemainder'}
+use Rattle.dpl_nodes.specs.declared.tree.BoolExpr.{BoolExpr, Not' as TruthNot', And' as TruthAnd', Or' as TruthOr', Same' as TruthSame', Differ' as TruthDiffer', Compare as TruthCompare}
 use Rattle.dpl_nodes.specs.declared.tree.PromotedInt.{PromotedInt, Scalar' as IntScalar', Element as IntElement, Negative', Sum', Difference', Product', Quotient', Remainder'}
 use Rattle.dpl_nodes.specs.declared.tree.PromotedTruth.{PromotedTruth, Scalar' as TruthScalar', Element as TruthElement, Not', And', Or', Same', Differ', Compare}
 use Rattle.dpl_nodes.specs.Typed.{int_view, truth_view, comparison_view, promoted_int, promoted_truth}
@@ -22,23 +22,11 @@ use Rattle.dpl_nodes.proofs.Unread.{cell_read-int, cell_read-truth}
 -- ---- no cell reads
 pub cell_read-promoted_int : (m : Times) (e : PromotedInt) → cell_read (promoted_int m e) ≡ None
 cell_read-promoted_int m (IntScalar' p e) = cell_read-int e
-cell_read-promoted_int m (IntElement slot at) = refl
-cell_read-promoted_int m (Negative' p e) = refl
-cell_read-promoted_int m (Sum' p a q b) = refl
-cell_read-promoted_int m (Difference' p a q b) = refl
-cell_read-promoted_int m (Product' p a q b) = refl
-cell_read-promoted_int m (Quotient' p a q b at) = refl
-cell_read-promoted_int m (Remainder' p a q b at) = refl
+cell_read-promoted_int m _ = refl
 
 pub cell_read-promoted_truth : (m : Times) (e : PromotedTruth) → cell_read (promoted_truth m e) ≡ None
 cell_read-promoted_truth m (TruthScalar' p e) = cell_read-truth e
-cell_read-promoted_truth m (TruthElement slot at) = refl
-cell_read-promoted_truth m (Not' p e) = refl
-cell_read-promoted_truth m (And' p a q b) = refl
-cell_read-promoted_truth m (Or' p a q b) = refl
-cell_read-promoted_truth m (Same' p a q b) = refl
-cell_read-promoted_truth m (Differ' p a q b) = refl
-cell_read-promoted_truth m (Compare c a b) = refl
+cell_read-promoted_truth m _ = refl
 
 -- ---- the first of two domains
 is_whole : (rs : List TextRange) → Some rs ≡ None → ⊥
@@ -84,68 +72,40 @@ module _ (limits : Limits) (s : Memory) where
 
   -- ---- without a whole array
   pub int_view-whole : (e : IntExpr) → whole_in limits in_memory (int_view e) s ≡ None
-  int_view-whole (Number n) = refl
-  int_view-whole (IntLocal slot) = refl
   int_view-whole (IntNegative' p e) = int_view-whole e
   int_view-whole (IntSum' p a q b) = two-whole (int_view a) (int_view b) nowhere Add (int_view-whole a) (int_view-whole b)
   int_view-whole (IntDifference' p a q b) = two-whole (int_view a) (int_view b) nowhere Subtract (int_view-whole a) (int_view-whole b)
   int_view-whole (IntProduct' p a q b) = two-whole (int_view a) (int_view b) nowhere Multiply (int_view-whole a) (int_view-whole b)
   int_view-whole (IntQuotient' p a q b at) = two-whole (int_view a) (int_view b) at.now Divide (int_view-whole a) (int_view-whole b)
   int_view-whole (IntRemainder' p a q b at) = two-whole (int_view a) (int_view b) at.now Remainder (int_view-whole a) (int_view-whole b)
-  int_view-whole (Size' p r) = refl
-  int_view-whole (First' p r at) = refl
-  int_view-whole (Last' p r at) = refl
-  int_view-whole (Low' p r at) = refl
-  int_view-whole (High' p r at) = refl
-  int_view-whole (Count' p d) = refl
-  int_view-whole (Element' slot p t at) = refl
-  int_view-whole (IntReduced' f p e at) = refl
+  int_view-whole _ = refl
 
   pub truth_view-whole : (e : BoolExpr) → whole_in limits in_memory (truth_view e) s ≡ None
-  truth_view-whole (TruthNode b) = refl
-  truth_view-whole (TruthLocal slot) = refl
   truth_view-whole (TruthNot' p e) = truth_view-whole e
   truth_view-whole (TruthAnd' p a q b) = two-whole (truth_view a) (truth_view b) nowhere And (truth_view-whole a) (truth_view-whole b)
   truth_view-whole (TruthOr' p a q b) = two-whole (truth_view a) (truth_view b) nowhere Or (truth_view-whole a) (truth_view-whole b)
   truth_view-whole (TruthSame' p a q b) = two-whole (truth_view a) (truth_view b) nowhere Equal (truth_view-whole a) (truth_view-whole b)
   truth_view-whole (TruthDiffer' p a q b) = two-whole (truth_view a) (truth_view b) nowhere NotEqual (truth_view-whole a) (truth_view-whole b)
   truth_view-whole (TruthCompare c a b) = two-whole (int_view a.now) (int_view b.now) nowhere (comparison_view c) (int_view-whole a.now) (int_view-whole b.now)
-  truth_view-whole (Contains r i) = refl
-  truth_view-whole (HasIndex d t) = refl
-  truth_view-whole (TruthAt slot t at) = refl
-  truth_view-whole (TruthReduced' f p e at) = refl
+  truth_view-whole _ = refl
 
   pub int_view-at : (e : IntExpr) (t : Index) → IsSameAt t (int_view e)
-  int_view-at (Number n) t = refl
-  int_view-at (IntLocal slot) t = refl
   int_view-at (IntNegative' p e) t = prefixed-at t Minus (int_view e) (int_view-at e t)
   int_view-at (IntSum' p a q b) t = two-at t (int_view a) (int_view b) nowhere Add (int_view-at a t) (int_view-at b t)
   int_view-at (IntDifference' p a q b) t = two-at t (int_view a) (int_view b) nowhere Subtract (int_view-at a t) (int_view-at b t)
   int_view-at (IntProduct' p a q b) t = two-at t (int_view a) (int_view b) nowhere Multiply (int_view-at a t) (int_view-at b t)
   int_view-at (IntQuotient' p a q b at) t = two-at t (int_view a) (int_view b) at.now Divide (int_view-at a t) (int_view-at b t)
   int_view-at (IntRemainder' p a q b at) t = two-at t (int_view a) (int_view b) at.now Remainder (int_view-at a t) (int_view-at b t)
-  int_view-at (Size' p r) t = refl
-  int_view-at (First' p r at) t = refl
-  int_view-at (Last' p r at) t = refl
-  int_view-at (Low' p r at) t = refl
-  int_view-at (High' p r at) t = refl
-  int_view-at (Count' p d) t = refl
-  int_view-at (Element' slot p i at) t = refl
-  int_view-at (IntReduced' f p e at) t = refl
+  int_view-at _ t = refl
 
   pub truth_view-at : (e : BoolExpr) (t : Index) → IsSameAt t (truth_view e)
-  truth_view-at (TruthNode b) t = refl
-  truth_view-at (TruthLocal slot) t = refl
   truth_view-at (TruthNot' p e) t = prefixed-at t Not (truth_view e) (truth_view-at e t)
   truth_view-at (TruthAnd' p a q b) t = two-at t (truth_view a) (truth_view b) nowhere And (truth_view-at a t) (truth_view-at b t)
   truth_view-at (TruthOr' p a q b) t = two-at t (truth_view a) (truth_view b) nowhere Or (truth_view-at a t) (truth_view-at b t)
   truth_view-at (TruthSame' p a q b) t = two-at t (truth_view a) (truth_view b) nowhere Equal (truth_view-at a t) (truth_view-at b t)
   truth_view-at (TruthDiffer' p a q b) t = two-at t (truth_view a) (truth_view b) nowhere NotEqual (truth_view-at a t) (truth_view-at b t)
   truth_view-at (TruthCompare c a b) t = two-at t (int_view a.now) (int_view b.now) nowhere (comparison_view c) (int_view-at a.now t) (int_view-at b.now t)
-  truth_view-at (Contains r i) t = refl
-  truth_view-at (HasIndex d i) t = refl
-  truth_view-at (TruthAt slot i at) t = refl
-  truth_view-at (TruthReduced' f p e at) t = refl
+  truth_view-at _ t = refl
 
   -- ---- promoted expressions in which there is none, and which so are evaluated once
   pub promoted_int-once : (m : Times) (e : PromotedInt) (t : Index) → whole_in limits in_memory (promoted_int m e) s ≡ None → IsSameAt t (promoted_int m e)

@@ -6,7 +6,7 @@ use Rattle.std.proofs.lemmas.Option.{none-some}
 use Rattle.dpl_syntax.specs.declared.place.Place.{Place}
 use Rattle.dpl_language.specs.Names.{Text}
 use Rattle.dpl_language.specs.Phrases.{bare_name, cell_read}
-use Rattle.dpl_language.specs.Tree.{Placed, Kind, ExprTree, Number, TruthWord, Named, LocalesWord, LocaleCount, HereWord, Grouped, DomainLiteral, Prefixed, Reduced, Chain, Postfixed, ItemTree, One, TextArgument, ExprArgument}
+use Rattle.dpl_language.specs.Tree.{Placed, Kind, ExprTree, Named, ItemTree, One, TextArgument, ExprArgument}
 use Rattle.dpl_language.specs.Phrases.{item_read}
 use Rattle.dpl_agreement.specs.Renamed.{renamed_expr, renamed_item}
 use Rattle.dpl_agreement.proofs.RenamedTwice.{renamed_expr-twice}
@@ -77,18 +77,8 @@ shown-named e f x named unread =
 
 -- a bare name stays one
 bare-twice : (ss : Scopes) (e : ExprTree Text) (x : Placed Text) → bare_name e ≡ Some x → (y : Placed Variable) × (bare_name (renamed_expr variable_of (renamed_expr (bound_in ss) e)) ≡ Some y)
-bare-twice ss (Number at n) x h = absurd (none-some x h)
-bare-twice ss (TruthWord at b) x h = absurd (none-some x h)
 bare-twice ss (Named z) x h = (record { at = z.at; name = variable_of (bound_in ss z.name) }, refl)
-bare-twice ss (LocalesWord at) x h = absurd (none-some x h)
-bare-twice ss (LocaleCount at) x h = absurd (none-some x h)
-bare-twice ss (HereWord at) x h = absurd (none-some x h)
-bare-twice ss (Grouped from item upto) x h = absurd (none-some x h)
-bare-twice ss (DomainLiteral from items upto) x h = absurd (none-some x h)
-bare-twice ss (Prefixed at op e) x h = absurd (none-some x h)
-bare-twice ss (Reduced at op word e) x h = absurd (none-some x h)
-bare-twice ss (Chain e rest) x h = absurd (none-some x h)
-bare-twice ss (Postfixed e posts) x h = absurd (none-some x h)
+bare-twice ss _ x h = absurd (none-some x h)
 
 -- what is printed, but no int and no truth value, is an array by its bare name
 printed-named : (o : Option (Placed Text)) (t : ValueType) → is_any_scalar t ≡ false → is_printed o t ≡ true → (x : Placed Text) × (o ≡ Some x)

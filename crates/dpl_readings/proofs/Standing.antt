@@ -5,7 +5,7 @@ use Rattle.dpl_language.specs.Tree.{One, WhileWord, ForWord, StmtTree, Block, If
 use Rattle.dpl_lowered.specs.Shapes.{nowhere}
 use Rattle.dpl_memory.specs.Memory.{Variable}
 use Rattle.dpl_standing.specs.Standing.{Standing, Outside, InTurn, IsOutside, MayStand, AllMayStand, ElseMayStand}
-use Rattle.dpl_nodes.specs.declared.step.Step.{Step, Nothing as NothingStep, Int as IntStep, DeclareRange, SetRange, Truth as TruthStep, DeclareDomain, SetDomain, DeclareArray, SetElement, SetArray, SetTruthArray, Write as WriteStep, Block', If', While', For', Forall', ForEach', ForallEach', Row_of-Step, end_of-Step, more_of-Step}
+use Rattle.dpl_nodes.specs.declared.step.Step.{Step, Write as WriteStep, Block', If', While', For', Forall', ForEach', ForallEach', Row_of-Step, end_of-Step, more_of-Step}
 use Rattle.dpl_nodes.specs.declared.step.Else.{Else as ElseNode, Absent, Do'}
 use Rattle.dpl_nodes.specs.Typed.{truth_view, range_item, domain_view}
 use Rattle.dpl_nodes.specs.Steps.{variable_in, names_view, written_as, listed, step_view, else_view, steps_view, steps_of}
@@ -17,17 +17,6 @@ outside-itself InTurn t is = absurd is
 
 mutual
   step_in-view : (w : Standing) (s : Step) → MayStand w (step_view s) → step_in w s ≡ step_view s
-  step_in-view w NothingStep may = refl
-  step_in-view w (IntStep deed slot e) may = refl
-  step_in-view w (DeclareRange slot e) may = refl
-  step_in-view w (SetRange slot e) may = refl
-  step_in-view w (TruthStep target e) may = refl
-  step_in-view w (DeclareDomain slot beginning placing) may = refl
-  step_in-view w (SetDomain x e) may = refl
-  step_in-view w (DeclareArray d) may = refl
-  step_in-view w (SetElement x t op at e) may = refl
-  step_in-view w (SetArray x op at e) may = refl
-  step_in-view w (SetTruthArray x at e) may = refl
   step_in-view w (WriteStep ends_line arguments) may = outside-itself w (written_as ends_line arguments.now) may
   step_in-view w (Block' p shape row) may = ap (λ ts. Block nowhere ts nowhere) (row_in-view w row may)
   step_in-view w (If' condition p shape row otherwise) may =
@@ -42,6 +31,7 @@ mutual
   step_in-view w (ForallEach' at names over changed p shape row) may =
       outside-itself w (forall_of at.now (names_view names) (One (domain_view over.now)) changed.now.reduced.now (row_in InTurn row)) may.0
       ∙ ap (forall_of at.now (names_view names) (One (domain_view over.now)) changed.now.reduced.now) (row_in-view InTurn row may.1)
+  step_in-view w _ may = refl
 
   else_in-view : (w : Standing) (o : ElseNode) → ElseMayStand w (else_view o) → else_in w o ≡ else_view o
   else_in-view w Absent may = refl

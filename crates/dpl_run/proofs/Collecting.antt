@@ -9,7 +9,7 @@ use Rattle.dpl_language.specs.Tree.{Kind, IntKind, BoolKind, StmtTree, Stmts, No
 use Rattle.dpl_language.specs.Names.{Text, Entry}
 use Rattle.dpl_agreement.specs.Scopes.{PlainForm}
 use Rattle.dpl_rules.specs.Sights.{Declared, Scope, Scopes, find, lookup, type_declared}
-use Rattle.dpl_rules.specs.Types.{Over, ValueType, Scalar, Range, Domain, Array, Promoted, Tuple, Locale, AllLocales, Cell}
+use Rattle.dpl_rules.specs.Types.{Over, ValueType, Scalar, Range, Domain, Array, Promoted, Tuple}
 use Rattle.dpl_rules.specs.Loops.{behind}
 use Rattle.dpl_rules.specs.Breaches.{top}
 use Rattle.dpl_rules.specs.Sound.{behind_all}
@@ -126,16 +126,13 @@ array-held s x None l over r = rw r refl
 array-held s x (Some slot) l over r = rw r refl
 
 type-held : (s : Memory) (x : Text) (slot : Option ℕ) (t : Option ValueType) (k : VariableKind) → kind_by t ≡ Some k → IsDeclaredKind k → is_promoted_by t ≡ false → HoldsAlike s x slot t
-type-held s x slot None k e kept single = absurd (none-some k e)
 type-held s x slot (Some (Scalar l)) k e kept single = scalar-held s x slot l
 type-held s x slot (Some (Range strided)) k e kept single = range-held s x slot strided
 type-held s x slot (Some (Domain rank strided)) k e kept single = domain-held s x slot rank strided (kind_if-some (is_rank rank) DomainKind k e).0
 type-held s x slot (Some (Array l over)) k e kept single = array-held s x slot l over (kind_if-some (is_rank over.rank) (ArrayKind l) k e).0
 type-held s x slot (Some (Promoted l over)) k e kept single = absurd (let f : true ≡ false = single in cc)
 type-held s x slot (Some (Tuple rank)) k e kept single = absurd (subst IsDeclaredKind (sym (kind_if-some (is_tuple_rank rank) TupleKind k e).1) kept)
-type-held s x slot (Some Locale) k e kept single = absurd (none-some k e)
-type-held s x slot (Some AllLocales) k e kept single = absurd (none-some k e)
-type-held s x slot (Some (Cell l)) k e kept single = absurd (none-some k e)
+type-held s x slot _ k e kept single = absurd (none-some k e)
 
 declared-held : (s : Memory) (x : Text) (slot : Option ℕ) (o : Option Declared) → HasKnownKind o → IsLeft o → HoldsAlike s x slot (type_declared o)
 declared-held s x slot None known is = refl

@@ -124,15 +124,8 @@ within-loop depth word xs item ss within =
 
 -- ---- a declaration in a forall's body is of no array
 kept-plain : (t : ValueType) → is_kept t ≡ true → is_array t ≡ false
-kept-plain (Scalar k) h = refl
-kept-plain (Range strided) h = refl
-kept-plain (Domain rank strided) h = refl
 kept-plain (Array k over) h = absurd cc
-kept-plain (Promoted k over) h = refl
-kept-plain (Tuple rank) h = refl
-kept-plain Locale h = refl
-kept-plain AllLocales h = refl
-kept-plain (Cell k) h = refl
+kept-plain _ h = refl
 
 owed-kept : (at : Place) (o : Option ValueType) → owed_type (is_untyped None) at o ≡ [] → has is_array o ≡ false
 owed-kept at None h = refl

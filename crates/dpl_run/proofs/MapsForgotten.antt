@@ -6,7 +6,7 @@ use mathlib.Core.Path.{fun_ext}
 use Rattle.dpl_syntax.specs.declared.place.Place.{Place}
 use Rattle.dpl_history.specs.declared.history.Event.{Event}
 use Rattle.dpl_language.specs.Tree.{Placed, ExprTree, ArrayTypeTree, TypeTree, ScalarType, SyncType, DomainType, ArrayType, InitTree, ItemInit, CreateInit, TypedTree, InitialTree, DeclareTree, WhileWord, OnWord, ForWord, ForallWord, CoforallWord, StmtTree, Nothing, Declare, Assigned, Call, Write, Block, If, Headed, Loop, Body, WordBody, BlockBody, Stmts, NoStmts, Then, Else, NoElse, ElseDo, ProgramTree}
-use Rattle.dpl_language.specs.Values.{Value, Int, Truth, Range, Domain, Array, Cell, Locale, AllLocales, Tuple, number, ranges_in, fault, PastLimit, ArrayTooLarge}
+use Rattle.dpl_language.specs.Values.{Value, Domain, Array, number, ranges_in, fault, PastLimit, ArrayTooLarge}
 use Rattle.dpl_language.specs.Distributions.{Root}
 use Rattle.dpl_language.specs.Ranges.{indices_in, size_in, loop_ranges, too_large}
 use Rattle.dpl_language.specs.Outcome.{Deeds, no_deeds, Outcome, Done, Stop, Waits, Run, with_value, unless}
@@ -68,25 +68,11 @@ module _ {N S : Type 0} (limits : Limits) (env : Environment N S) where
   module _ (d : DeclareTree N) (s after : S) (So : S → Type 0) (undealt : So after) (deals : (x : N) (root : Root) → So (env.deal x root after)) where
     domain-dealt : (type : Option (TypeTree N)) (v : Value) → So (deal_domain limits env type d.initial d.name.name v s after)
     domain-dealt type (Domain rs) = deals d.name.name _
-    domain-dealt type (Int n) = undealt
-    domain-dealt type (Truth b) = undealt
-    domain-dealt type (Range r) = undealt
-    domain-dealt type (Array k rs) = undealt
-    domain-dealt type (Cell k) = undealt
-    domain-dealt type (Locale n) = undealt
-    domain-dealt type AllLocales = undealt
-    domain-dealt type (Tuple t) = undealt
+    domain-dealt type _ = undealt
 
     array-dealt : (a : ArrayTypeTree N) (v : Value) → So (deal_array limits env a d.name.name v s after)
     array-dealt a (Array k rs) = deals d.name.name _
-    array-dealt a (Int n) = undealt
-    array-dealt a (Truth b) = undealt
-    array-dealt a (Range r) = undealt
-    array-dealt a (Domain rs) = undealt
-    array-dealt a (Cell k) = undealt
-    array-dealt a (Locale n) = undealt
-    array-dealt a AllLocales = undealt
-    array-dealt a (Tuple t) = undealt
+    array-dealt a _ = undealt
 
     by-dealt : (type : Option (TypeTree N)) (v : Value) → So (deal_by limits env type d.initial d.name.name v s after)
     by-dealt None v = domain-dealt None v

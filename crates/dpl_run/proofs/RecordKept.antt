@@ -6,7 +6,7 @@ use Rattle.dpl_syntax.specs.declared.place.Place.{Place}
 use Rattle.dpl_history.specs.declared.cell.CellOp.{CellOp}
 use Rattle.dpl_history.specs.declared.cell.CellOp.TheVariants.{Reset}
 use Rattle.dpl_sets.specs.TextRanges.{TextRange}
-use Rattle.dpl_language.specs.Tree.{Placed, Kind, AssignTree, ItemTree, One, TargetTree, Whole, Element, CallTree, ReadCall, ResetCall, WriteCall, ArgumentTree, TextArgument, ExprArgument, WriteTree, TypeTree, ScalarType, SyncType, DomainType, ArrayType, InitTree, ItemInit, CreateInit, InitialTree, DeclareTree}
+use Rattle.dpl_language.specs.Tree.{Placed, Kind, AssignTree, ItemTree, One, TargetTree, Whole, Element, CallTree, ReadCall, ResetCall, WriteCall, ArgumentTree, TextArgument, ExprArgument, WriteTree, TypeTree, ArrayType, InitTree, ItemInit, CreateInit, InitialTree, DeclareTree}
 use Rattle.dpl_language.specs.Values.{Value, Index, index_of, ranges_in, array_domain, is_domain, cell_kind, kept_number, Fault, fault, Budget, ArrayTooLarge}
 use Rattle.dpl_language.specs.Arithmetic.{assign_divides, tested_divisor}
 use Rattle.dpl_language.specs.Ranges.{indices_in, size_in, too_large}
@@ -148,14 +148,11 @@ module _ {N S : Type 0} (limits : Limits) (env : Environment N S) where
   array_of-kept x a (Some i) s done loops = array_of_init-kept x a i.equals i.init s done loops
 
   declare_typed-kept : (x : Placed N) (type : Option (TypeTree N)) (i : Option (InitialTree N)) → Keeps (declare_typed limits env x type i)
-  declare_typed-kept x None i s done loops = declare_with-kept x _ _ i s done loops
-  declare_typed-kept x (Some (ScalarType at k)) i s done loops = declare_with-kept x _ _ i s done loops
-  declare_typed-kept x (Some (SyncType at kind_at k)) i s done loops = declare_with-kept x _ _ i s done loops
-  declare_typed-kept x (Some (DomainType d)) i s done loops = declare_with-kept x _ _ i s done loops
   declare_typed-kept x (Some (ArrayType a)) i s done loops =
       with_value-kept (domain_of limits env a.from a.over s) _
       (λ d. unless-kept (too_large (ranges_in d)) (fault ArrayTooLarge x.at) _
       (array_of-kept x (record { over = declared_over a.over; kind = a.kind; ranges = ranges_in d }) i)) s done loops
+  declare_typed-kept x _ i s done loops = declare_with-kept x _ _ i s done loops
 
   given_or-kept : (x : Placed N) (o : Option Value) (go : Run S) → Keeps go → Keeps (given_or limits env x o go)
   given_or-kept x None go p s done loops = p s done loops

@@ -5,8 +5,8 @@ use Rattle.std.specs.Option.{option_or}
 use mathlib.Core.Path.{fun_ext}
 use Rattle.dpl_syntax.specs.declared.place.Place.{Place}
 use Rattle.dpl_sets.specs.TextRanges.{TextRange}
-use Rattle.dpl_language.specs.Tree.{Placed, ExprTree, Number, TruthWord, Named, LocalesWord, LocaleCount, HereWord, Grouped, DomainLiteral, Prefixed, Reduced, Chain, Postfixed, ItemTree, One, RangeItem, Stride, NoStride, By, Links, NoLinks, Link, Posts, NoPosts, Post, PostTree, Brackets, Rounds, Dotted, MethodTree, Plainly, Dim, Contains, Expand, CellRead, Items, FirstItem, MoreItems, NoItems, NextItem, Exprs, FirstExpr, MoreExprs, NoExprs, NextExpr}
-use Rattle.dpl_language.specs.Values.{Value, Int, Truth, Range, Domain, Array, Cell, Locale, AllLocales, Tuple, Index, number, index_of, array_domain, Fault}
+use Rattle.dpl_language.specs.Tree.{Placed, ExprTree, Named, HereWord, Grouped, DomainLiteral, Prefixed, Reduced, Chain, Postfixed, ItemTree, One, RangeItem, Stride, NoStride, By, Links, NoLinks, Link, Posts, NoPosts, Post, PostTree, Brackets, Rounds, Dotted, MethodTree, Plainly, Dim, Contains, Expand, CellRead, Items, FirstItem, MoreItems, NoItems, NextItem, Exprs, FirstExpr, MoreExprs, NoExprs, NextExpr}
+use Rattle.dpl_language.specs.Values.{Value, Array, Locale, Index, number, index_of, array_domain, Fault}
 use Rattle.dpl_language.specs.Arithmetic.{infix_of, divides, tested_divisor, decides}
 use Rattle.dpl_language.specs.Ranges.{bounded}
 use Rattle.dpl_language.specs.Environment.{Environment, Limits}
@@ -27,15 +27,8 @@ module _ {N S1 S2 : Type 0} (limits : Limits) (first : Environment N S1) (second
   element_of-seen OtherBase t = refl
 
   bracketed-seen : (b : Base N) (vs : _) (v : Value) → bracketed limits first b vs v s1 ≡ bracketed limits second b vs v s2
-  bracketed-seen b vs (Int n) = refl
-  bracketed-seen b vs (Truth c) = refl
-  bracketed-seen b vs (Range r) = refl
-  bracketed-seen b vs (Domain rs) = refl
   bracketed-seen b vs (Array k rs) = element_of-seen b (index_of vs)
-  bracketed-seen b vs (Cell k) = refl
-  bracketed-seen b vs (Locale k) = refl
-  bracketed-seen b vs AllLocales = refl
-  bracketed-seen b vs (Tuple is) = refl
+  bracketed-seen b vs _ = refl
 
   -- a name: its value, or its element at the index
   named_at-seen : (t : Option Index) (x : Placed N) (o : Option _) (v : Value) → named limits first t x o v s1 ≡ named limits second t x o v s2
@@ -56,14 +49,7 @@ module _ {N S1 S2 : Type 0} (limits : Limits) (first : Environment N S1) (second
     whole_in-seen (Prefixed at op e) = whole_in-seen e
     whole_in-seen (Chain e rest) =
         ap (λ o. option_or o (whole_links limits first rest s1)) (whole_in-seen e) ∙ ap (option_or (whole_in limits second e s2)) (whole_links-seen rest)
-    whole_in-seen (Number at n) = refl
-    whole_in-seen (TruthWord at b) = refl
-    whole_in-seen (LocalesWord at) = refl
-    whole_in-seen (LocaleCount at) = refl
-    whole_in-seen (HereWord at) = refl
-    whole_in-seen (DomainLiteral from items upto) = refl
-    whole_in-seen (Reduced at op word e) = refl
-    whole_in-seen (Postfixed e posts) = refl
+    whole_in-seen _ = refl
 
     pub whole_item-seen : (i : ItemTree N) → whole_item limits first i s1 ≡ whole_item limits second i s2
     whole_item-seen (One e) = whole_in-seen e
@@ -76,11 +62,7 @@ module _ {N S1 S2 : Type 0} (limits : Limits) (first : Environment N S1) (second
 
   mutual
     pub value_of-seen : (e : ExprTree N) (t : Option Index) → value_of limits first e t s1 ≡ value_of limits second e t s2
-    value_of-seen (Number at n) t = refl
-    value_of-seen (TruthWord at b) t = refl
     value_of-seen (Named x) t = named-seen t x
-    value_of-seen (LocalesWord at) t = refl
-    value_of-seen (LocaleCount at) t = refl
     value_of-seen (HereWord at) t = ap (λ k. Ok (Locale k)) seen.heres
     value_of-seen (Grouped from item upto) t = item_of-seen item t
     value_of-seen (DomainLiteral from items upto) t = with_ok-same _ _ _ _ (items_of-seen items) (λ vs. refl)
@@ -90,6 +72,7 @@ module _ {N S1 S2 : Type 0} (limits : Limits) (first : Environment N S1) (second
         ∙ ap (reduction limits.budget word op (λ i. value_of limits second e (Some i) s2)) (whole_in-seen e)
     value_of-seen (Chain e rest) t = with_ok-same _ _ _ _ (value_of-seen e t) (λ v. chained-seen rest t v)
     value_of-seen (Postfixed e posts) t = with_ok-same _ _ _ _ (value_of-seen e None) (λ v. behind-seen posts (base_of e) v)
+    value_of-seen _ t = refl
 
     chained-seen : (l : Links N) (t : Option Index) (v : Value) → chained limits first l t s1 v ≡ chained limits second l t s2 v
     chained-seen NoLinks t v = refl

@@ -18,8 +18,8 @@ use Rattle.dpl_rules.specs.Assignments.{written_name, set_breaches, change_breac
 use Rattle.dpl_rules.proofs.Admission.{first_empty, second_empty}
 use Rattle.dpl_sound.proofs.Given.{some-same, both_so}
 use Rattle.dpl_sound.proofs.Known.{told-typed, post-told}
-use Rattle.dpl_words.specs.Words.{IntLeaf, TruthLeaf, RangeLeaf, LocaleLeaf}
-use Rattle.dpl_memory.specs.Memory.{VariableKind, PlainKind, DomainKind, TupleKind, CellKind, ArrayKind}
+use Rattle.dpl_words.specs.Words.{IntLeaf, TruthLeaf}
+use Rattle.dpl_memory.specs.Memory.{VariableKind, PlainKind, ArrayKind}
 use Rattle.dpl_memory.specs.Resolved.{Bound, kind_takes}
 use Rattle.dpl_runnable.specs.Kinds.{leaf_of, IsNamed, AreVariables, IsScalarKind, IsAssignedKind, IsGivenTo}
 use Rattle.dpl_typed.specs.Leaves.{value_kind, kind_by, type_in, kind_in, IsFound}
@@ -59,12 +59,7 @@ set_elements-take BoolKind = refl
 scalar_kind-takes : (k : VariableKind) → IsScalarKind k → kind_takes k SetReduce ≡ true
 scalar_kind-takes (PlainKind IntLeaf) h = refl
 scalar_kind-takes (PlainKind TruthLeaf) h = refl
-scalar_kind-takes (PlainKind RangeLeaf) h = absurd h
-scalar_kind-takes (PlainKind LocaleLeaf) h = absurd h
-scalar_kind-takes DomainKind h = absurd h
-scalar_kind-takes TupleKind h = absurd h
-scalar_kind-takes (ArrayKind l) h = absurd h
-scalar_kind-takes (CellKind c) h = absurd h
+scalar_kind-takes _ h = absurd h
 
 -- a side of a type and its kind, and the target's kind
 module _ (at : Place) (side : Part) (u : ValueType) (is : side.type ≡ Some u) (j : VariableKind) (of_kind : value_kind u ≡ Some j) (k : VariableKind) where
@@ -229,13 +224,8 @@ module _ (scopes : Scopes) (names : AreVariables scopes) (forall : Option Reduci
   module _ (is : List (Bound × Op)) (reduces : (x : Text) (k : VariableKind) → kind_in scopes x ≡ Some k → may_reduce_in forall (lookup scopes x) ≡ true → IsReduced scopes is x k × IsScalarKind k) where
     reduced-by : (x : Text) (sign : AssignTree) (side : Part) (t : ValueType) (op : Assign) (k : VariableKind) → kind_in scopes x ≡ Some k
         → fitting sign op (may_reduce_in forall (lookup scopes x)) side t ≡ [] → IsReducedBy scopes is x op k
-    reduced-by x sign side t Set k e h = tt
-    reduced-by x sign side t SetAdd k e h = tt
-    reduced-by x sign side t SetSubtract k e h = tt
-    reduced-by x sign side t SetMultiply k e h = tt
-    reduced-by x sign side t SetDivide k e h = tt
-    reduced-by x sign side t SetRemainder k e h = tt
     reduced-by x sign side t SetReduce k e h = reduces x k e (may-reduce sign.at (may_reduce_in forall (lookup scopes x)) side t h)
+    reduced-by x sign side t _ k e h = tt
 
     pub runnable_change : (x : Placed Text) (sign : AssignTree) (item : ItemTree Text) → ItemSpelt IsNear ⊥ item → UntaskedItem item
         → assignment_breaches (untasked scopes forall) (Whole x) sign item ≡ [] → IsRunnableChange scopes is x.name sign.op item

@@ -5,7 +5,7 @@ use Rattle.std.specs.Prelude.{bytes_eq, if◌then◌else◌}
 use Rattle.std.proofs.lemmas.Bool.Decides.{Decides-eqb}
 use Rattle.std.proofs.lemmas.Slice.Eq.{bytes_eq-Decides}
 use Rattle.dpl_syntax.specs.declared.place.Place.{Place}
-use Rattle.dpl_language.specs.Tree.{Placed, BracketPair, Op, Assign, Set, SetAdd, SetSubtract, SetMultiply, SetDivide, SetRemainder, SetReduce, AssignTree, Exprs, ItemTree, Whole, Element, Assigned}
+use Rattle.dpl_language.specs.Tree.{Placed, BracketPair, Op, Assign, SetReduce, AssignTree, Exprs, ItemTree, Whole, Element, Assigned}
 use Rattle.dpl_language.specs.Names.{Text, paired}
 use Rattle.dpl_agreement.specs.Renamed.{renamed_item, renamed_intents}
 use Rattle.dpl_agreement.specs.Scopes.{fits as fits_stmt}
@@ -13,7 +13,7 @@ use Rattle.dpl_rules.specs.Types.{ValueType}
 use Rattle.dpl_rules.specs.Sights.{Scopes, lookup}
 use Rattle.dpl_scopes.specs.Slots.{slot_in}
 use Rattle.dpl_scopes.proofs.Slots.{slot_in-lookup}
-use Rattle.dpl_words.specs.Words.{IntLeaf, TruthLeaf, RangeLeaf, LocaleLeaf, intent_at}
+use Rattle.dpl_words.specs.Words.{IntLeaf, TruthLeaf, intent_at}
 use Rattle.dpl_memory.specs.Memory.{VariableKind, PlainKind, DomainKind, TupleKind, CellKind, ArrayKind, Variable, variable, intents_by_slot}
 use Rattle.dpl_memory.specs.Resolved.{Bound, Seen, Start, text_of, variable_of, resolving, kind_takes, KindCombines, IntentResolves, ArraysResolve, Suits, SuitsElement}
 use Rattle.dpl_runnable.specs.Kinds.{leaf_of, is_promoted, IsAssignedKind, IsGivenTo}
@@ -44,13 +44,8 @@ told-same x slot (b ∷ bs) h =
     by false false p q f g e = e
 
 unreduced-intends : (op : Assign) → op ≢ SetReduce → (x : Text) (l : Variable) (g : Seen) → IntentResolves op x l g
-unreduced-intends Set n x l g = tt
-unreduced-intends SetAdd n x l g = tt
-unreduced-intends SetSubtract n x l g = tt
-unreduced-intends SetMultiply n x l g = tt
-unreduced-intends SetDivide n x l g = tt
-unreduced-intends SetRemainder n x l g = tt
 unreduced-intends SetReduce n x l g = absurd (n refl)
+unreduced-intends _ n x l g = tt
 
 -- the arrays in sight that are over it stand with its name
 arrays-stand : (ss : Scopes) (is : List (Bound × Op)) (x : Text) → ArraysResolve (leaf_in ss x).kind (assigned_in ss x) (seen_of ss is)
@@ -80,16 +75,11 @@ module _ (start : Start) (ss : Scopes) (known : AreKnownScopes ss) (is : List (B
 
     -- `reduce=` resolves; the arrays that stand with a name tell nothing of it
     intends : (op : Assign) → IsReducedBy ss is x op k → IntentResolves op x (with_arrays ss (leaf_in ss x)) g
-    intends Set h = tt
-    intends SetAdd h = tt
-    intends SetSubtract h = tt
-    intends SetMultiply h = tt
-    intends SetDivide h = tt
-    intends SetRemainder h = tt
     intends SetReduce h =
         let same = told-same x slotted.0 is (h.0.alike slotted.0 slotted.1) in
         subst (λ (l : Variable). (paired x (renamed_intents text_of is) ≡ intent_at l.slot (intents_by_slot (renamed_intents variable_of is))) × KindCombines l.kind (intent_at l.slot (intents_by_slot (renamed_intents variable_of is)))) (sym leaf)
         (same, subst (KindCombines k) same h.0.combines)
+    intends _ h = tt
 
   -- ---- A NAME may hold what it is given
   module _ (x : Text) (item : ItemTree Text) where
@@ -106,14 +96,11 @@ module _ (start : Start) (ss : Scopes) (known : AreKnownScopes ss) (is : List (B
     target-suits : (k j : VariableKind) → IsAssignedKind k → IsGivenTo k j → kind_in ss x ≡ Some k → IsItemOf ss item j → ((t : ValueType) → type_in ss x ≡ Some t → IsTaken ss item t) → SuitsAs k
     target-suits (PlainKind IntLeaf) j assigned given kind of shaped = one-suits (PlainKind IntLeaf) j refl given kind of shaped
     target-suits (PlainKind TruthLeaf) j assigned given kind of shaped = one-suits (PlainKind TruthLeaf) j refl given kind of shaped
-    target-suits (PlainKind RangeLeaf) j assigned given kind of shaped = absurd assigned
-    target-suits (PlainKind LocaleLeaf) j assigned given kind of shaped = absurd assigned
     target-suits DomainKind j assigned given kind of shaped = one-suits DomainKind j refl given kind of shaped
-    target-suits TupleKind j assigned given kind of shaped = absurd assigned
     target-suits (ArrayKind l) j assigned given kind of shaped =
         let (u, typed) = some-type _ j of.kind in
         array-suits ss known is item of.found u typed l (shape_in ss x) j (ap kind_by (sym typed) ∙ of.kind) (given-operand l j given)
-    target-suits (CellKind c) j assigned given kind of shaped = absurd assigned
+    target-suits _ j assigned given kind of shaped = absurd assigned
 
   -- ---- ASSIGNMENTS
   pub change-fits : (x : Placed Text) (sign : AssignTree) (item : ItemTree Text) (semicolon : Place) → IsRunnableChange ss is x.name sign.op item → fits_stmt (resolving start) (bound_stmt ss (Assigned (Whole x) sign item semicolon)) g

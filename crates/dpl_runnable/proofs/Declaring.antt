@@ -138,11 +138,8 @@ module _ (ss : Scopes) (d : DeclareTree Text) (r : IsRunnableDeclare ss d) where
   single-unpromoted none = ap is_promoted_by is-type ∙ single-type type r.kind of_kind (declared-single r.kind (declared-single_kind ss d none r))
 
   unpromoted : (y : Option (TypeTree Text)) → type_of d.typed ≡ y → is_promoted_by new.type ≡ false
-  unpromoted None e = single-unpromoted (subst IsNoArrayType (sym e) tt)
-  unpromoted (Some (ScalarType at l)) e = single-unpromoted (subst IsNoArrayType (sym e) tt)
-  unpromoted (Some (SyncType at kind_at l)) e = single-unpromoted (subst IsNoArrayType (sym e) tt)
-  unpromoted (Some (DomainType a)) e = single-unpromoted (subst IsNoArrayType (sym e) tt)
   unpromoted (Some (ArrayType arr)) e = ap is_promoted_by is-type ∙ ap (λ u. is_promoted_by (Some u)) (sym (array-type arr e).3)
+  unpromoted _ e = single-unpromoted (subst IsNoArrayType (sym e) tt)
 
   pub declared-open : AreOpen ss → AreOpen (add new ss)
   declared-open h = plain-add new ss r.kind r.declared (unpromoted (type_of d.typed) refl) refl r.fresh h
@@ -274,8 +271,5 @@ module _ (ss : Scopes) (d : DeclareTree Text) (r : IsRunnableDeclare ss d) where
     declare-fits = by (type_of d.typed) refl
       where
         by : (y : Option (TypeTree Text)) → type_of d.typed ≡ y → Fits (type_of (bound_typed ss d.typed)) d.initial
-        by None e = single-fits (subst IsNoArrayType (sym e) tt)
-        by (Some (ScalarType at l)) e = single-fits (subst IsNoArrayType (sym e) tt)
-        by (Some (SyncType at kind_at l)) e = single-fits (subst IsNoArrayType (sym e) tt)
-        by (Some (DomainType a)) e = single-fits (subst IsNoArrayType (sym e) tt)
         by (Some (ArrayType arr)) e = array-fits arr e
+        by _ e = single-fits (subst IsNoArrayType (sym e) tt)

@@ -5,7 +5,7 @@ use Rattle.std.specs.Prelude.{nat_lt, ◌&&◌, ◌==◌}
 use Rattle.std.proofs.lemmas.Option.{none-some}
 use Rattle.std.proofs.lemmas.Bool.Decides.{nat_tests}
 use Rattle.dpl_syntax.specs.declared.place.Place.{Place}
-use Rattle.dpl_language.specs.Tree.{Placed, Kind, ReadWord, Infix, Add, Subtract, Multiply, Divide, Remainder, Less, LessEqual, Greater, GreaterEqual, Equal, NotEqual, And, Or}
+use Rattle.dpl_language.specs.Tree.{Placed, Kind, ReadWord, Infix, And, Or}
 use Rattle.dpl_language.specs.Tree.{ExprTree, Number, TruthWord, Named, LocalesWord, LocaleCount, HereWord, Grouped, DomainLiteral, Prefixed, Reduced, Chain, Postfixed}
 use Rattle.dpl_language.specs.Tree.{ItemTree, One, RangeItem, Stride, NoStride, By, Links, NoLinks, Link, Posts, NoPosts, Post, PostTree, Brackets, Rounds, Dotted}
 use Rattle.dpl_language.specs.Tree.{MethodTree, Plainly, Dim, Contains, Expand, CellRead, Items, FirstItem, MoreItems, NoItems, NextItem, Exprs, FirstExpr, MoreExprs, NoExprs, NextExpr}
@@ -67,64 +67,22 @@ two_or_more n = ne_eqb (suc (suc n)) 1 (λ e. omega (arith, e))
 
 -- ---- what doesn't run
 pub not_bare : (e : ExprTree Text) → UntaskedExpr e → bare_locales e ≡ None
-not_bare (Number at n) h = refl
-not_bare (TruthWord at b) h = refl
-not_bare (Named x) h = refl
 not_bare (LocalesWord at) h = absurd h
-not_bare (LocaleCount at) h = refl
-not_bare (HereWord at) h = refl
-not_bare (Grouped from item upto) h = refl
-not_bare (DomainLiteral from items upto) h = refl
-not_bare (Prefixed at op e) h = refl
-not_bare (Reduced at op word e) h = refl
-not_bare (Chain e rest) h = refl
-not_bare (Postfixed e posts) h = refl
+not_bare _ h = refl
 
 -- ---- operators of one level nest
 and-passes : (next : Infix) → level_of next ≡ Conjunctions → passes_on And next ≡ true
-and-passes Add h = absurd cc
-and-passes Subtract h = absurd cc
-and-passes Multiply h = absurd cc
-and-passes Divide h = absurd cc
-and-passes Remainder h = absurd cc
-and-passes Less h = absurd cc
-and-passes LessEqual h = absurd cc
-and-passes Greater h = absurd cc
-and-passes GreaterEqual h = absurd cc
-and-passes Equal h = absurd cc
-and-passes NotEqual h = absurd cc
 and-passes And h = refl
-and-passes Or h = absurd cc
+and-passes _ h = absurd cc
 
 or-passes : (next : Infix) → level_of next ≡ Disjunctions → passes_on Or next ≡ true
-or-passes Add h = absurd cc
-or-passes Subtract h = absurd cc
-or-passes Multiply h = absurd cc
-or-passes Divide h = absurd cc
-or-passes Remainder h = absurd cc
-or-passes Less h = absurd cc
-or-passes LessEqual h = absurd cc
-or-passes Greater h = absurd cc
-or-passes GreaterEqual h = absurd cc
-or-passes Equal h = absurd cc
-or-passes NotEqual h = absurd cc
-or-passes And h = absurd cc
 or-passes Or h = refl
+or-passes _ h = absurd cc
 
 level-passes : (op next : Infix) → level_of next ≡ level_of op → passes_on op next ≡ true
-level-passes Add next h = refl
-level-passes Subtract next h = refl
-level-passes Multiply next h = refl
-level-passes Divide next h = refl
-level-passes Remainder next h = refl
-level-passes Less next h = refl
-level-passes LessEqual next h = refl
-level-passes Greater next h = refl
-level-passes GreaterEqual next h = refl
-level-passes Equal next h = refl
-level-passes NotEqual next h = refl
 level-passes And next h = and-passes next h
 level-passes Or next h = or-passes next h
+level-passes _ next h = refl
 
 both : (a b : Bool) → a ≡ true → b ≡ true → (a && b) ≡ true
 both true b p q = q

@@ -1,7 +1,7 @@
 -- An expression's names are resolved where all that is in sight have kinds.
 -- None of them is read as a cell.
 use Rattle.std.proofs.Common.{◌≡◌, Option, Some, None, refl, ap, ◌∙◌}
-use Rattle.dpl_language.specs.Tree.{Placed, ExprTree, Number, TruthWord, Named, LocalesWord, LocaleCount, HereWord, Grouped, DomainLiteral, Prefixed, Reduced, Chain, Postfixed, ItemTree, One, RangeItem, Stride, NoStride, By, Links, NoLinks, Link, Posts, NoPosts, Post, PostTree, Brackets, Rounds, Dotted, MethodTree, Plainly, Dim, Contains, Expand, CellRead, Items, FirstItem, MoreItems, NoItems, NextItem, Exprs, FirstExpr, MoreExprs, NoExprs, NextExpr}
+use Rattle.dpl_language.specs.Tree.{Placed, ExprTree, Named, Grouped, DomainLiteral, Prefixed, Reduced, Chain, Postfixed, ItemTree, One, RangeItem, Stride, NoStride, By, Links, NoLinks, Link, Posts, NoPosts, Post, PostTree, Brackets, Rounds, Dotted, MethodTree, Plainly, Dim, Contains, Expand, CellRead, Items, FirstItem, MoreItems, NoItems, NextItem, Exprs, FirstExpr, MoreExprs, NoExprs, NextExpr}
 use Rattle.dpl_language.specs.Names.{Text}
 use Rattle.dpl_language.specs.Phrases.{bare_name, method_read, post_read, posts_read, read_by, cell_read, item_read}
 use Rattle.dpl_agreement.specs.Renamed.{renamed_expr, renamed_item, renamed_stride, renamed_links, renamed_posts, renamed_post, renamed_method, renamed_items, renamed_more_items, renamed_exprs, renamed_more_exprs}
@@ -24,18 +24,14 @@ module _ (scopes : Scopes) (plain : AreKnownScopes scopes) where
 
   mutual
     expr_names : (e : ExprTree Text) → IsSimple Found e → NamesAre IsIn (renamed_expr (bound_in scopes) e)
-    expr_names (Number at n) h = tt
-    expr_names (TruthWord at b) h = tt
     expr_names (Named x) h = innermost-found x.name scopes plain h
-    expr_names (LocalesWord at) h = tt
-    expr_names (LocaleCount at) h = tt
-    expr_names (HereWord at) h = tt
     expr_names (Grouped from item upto) h = item_names item h
     expr_names (DomainLiteral from items upto) h = items_names items h
     expr_names (Prefixed at op e) h = expr_names e h
     expr_names (Reduced at op word e) h = expr_names e h
     expr_names (Chain e rest) h = (expr_names e h.0, links_names rest h.1)
     expr_names (Postfixed e posts) h = (expr_names e h.0, posts_names posts h.1)
+    expr_names _ h = tt
 
     item_names : (i : ItemTree Text) → IsSimpleItem Found i → ItemNamesAre IsIn (renamed_item (bound_in scopes) i)
     item_names (One e) h = expr_names e h
@@ -92,11 +88,8 @@ read_by-none (Some x) = refl
 
 module _ (P : Text → Type 0) where
   method_read-simple : (m : MethodTree Text) → IsSimpleMethod P m → method_read m ≡ None
-  method_read-simple (Plainly at w) h = refl
-  method_read-simple (Dim at from rank_at d upto) h = refl
-  method_read-simple (Contains at from es upto) h = refl
-  method_read-simple (Expand at from e upto) h = refl
   method_read-simple (CellRead at w from upto) h = absurd h
+  method_read-simple _ h = refl
 
   post_read-simple : (p : PostTree Text) → IsSimplePost P p → post_read p ≡ None
   post_read-simple (Brackets from items upto) h = refl
@@ -109,18 +102,8 @@ module _ (P : Text → Type 0) where
   posts_read-simple (Post p (Post q rest)) h = refl
 
   cell_read-simple : (e : ExprTree Text) → IsSimple P e → cell_read e ≡ None
-  cell_read-simple (Number at n) h = refl
-  cell_read-simple (TruthWord at b) h = refl
-  cell_read-simple (Named x) h = refl
-  cell_read-simple (LocalesWord at) h = refl
-  cell_read-simple (LocaleCount at) h = refl
-  cell_read-simple (HereWord at) h = refl
-  cell_read-simple (Grouped from item upto) h = refl
-  cell_read-simple (DomainLiteral from items upto) h = refl
-  cell_read-simple (Prefixed at op e) h = refl
-  cell_read-simple (Reduced at op word e) h = refl
-  cell_read-simple (Chain e rest) h = refl
   cell_read-simple (Postfixed e posts) h = ap (read_by (bare_name e)) (posts_read-simple posts h.1) ∙ read_by-none (bare_name e)
+  cell_read-simple _ h = refl
 
 pub unread-simple : (P : Text → Type 0) (i : ItemTree Text) → IsSimpleItem P i → item_read i ≡ None
 unread-simple P (One e) h = cell_read-simple P e h

@@ -2,7 +2,7 @@
 -- None of them is read as a cell.
 use Rattle.std.proofs.Common.{◌≡◌, false, List, [], ◌∷◌, Option, Some, None, sym, ap, ◌∙◌, subst, map}
 use Rattle.std.specs.Prelude.{option_map}
-use Rattle.dpl_language.specs.Tree.{AfterComma, Op, ExprTree, Number, TruthWord, Named, LocalesWord, LocaleCount, HereWord, Grouped, DomainLiteral, Prefixed, Reduced, Chain, Postfixed, ItemTree, One, NoPosts, Post, Dotted, Contains, Items, Exprs, StartTree, StartExpr, StartTuple, MapTree, BlockMap, CyclicMap, BlockCyclicMap, MappedTree, TypeTree, ScalarType, SyncType, DomainType, ArrayType, TypedTree, InitTree, ItemInit, CreateInit, InitialTree, ArgumentTree, TextArgument, ExprArgument}
+use Rattle.dpl_language.specs.Tree.{AfterComma, Op, ExprTree, TruthWord, Named, DomainLiteral, Postfixed, ItemTree, One, NoPosts, Post, Dotted, Contains, Items, Exprs, StartTree, StartExpr, StartTuple, MapTree, BlockMap, CyclicMap, BlockCyclicMap, MappedTree, TypeTree, ScalarType, SyncType, DomainType, ArrayType, TypedTree, InitTree, ItemInit, CreateInit, InitialTree, ArgumentTree, TextArgument, ExprArgument}
 use Rattle.dpl_language.specs.Names.{Text}
 use Rattle.dpl_language.specs.Values.{Index}
 use Rattle.dpl_language.specs.Phrases.{bare_name, item_read}
@@ -30,18 +30,8 @@ item-unread ss i found = item_read-renamed (bound_in ss) i ∙ ap (option_map (r
 
 -- a bare name that is handed to `write` is in sight
 shown-fits : (start : Start) (g : Seen) (e : ExprTree Bound) → NamesAre (λ b. Resolves b g) e → fits_shown (resolving start) (bare_name e) g
-shown-fits start g (Number at n) h = tt
-shown-fits start g (TruthWord at b) h = tt
 shown-fits start g (Named x) h = λ t. h
-shown-fits start g (LocalesWord at) h = tt
-shown-fits start g (LocaleCount at) h = tt
-shown-fits start g (HereWord at) h = tt
-shown-fits start g (Grouped from item upto) h = tt
-shown-fits start g (DomainLiteral from items upto) h = tt
-shown-fits start g (Prefixed at op e) h = tt
-shown-fits start g (Reduced at op word e) h = tt
-shown-fits start g (Chain e rest) h = tt
-shown-fits start g (Postfixed e posts) h = tt
+shown-fits start g _ h = tt
 
 module _ (start : Start) (ss : Scopes) (known : AreKnownScopes ss) (intents : List (Bound × Op)) where
   abbrev here : Seen

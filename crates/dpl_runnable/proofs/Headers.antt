@@ -7,7 +7,7 @@ use Rattle.dpl_language.specs.Tree.{Placed, ExprTree, Number, TruthWord, Named, 
 use Rattle.dpl_language.specs.Names.{Text}
 use Rattle.dpl_language.specs.Phrases.{parts}
 use Rattle.dpl_agreement.specs.Untasked.{UntaskedLoop}
-use Rattle.dpl_rules.specs.Types.{ValueType, Scalar, Range, Domain, Array, Promoted, Tuple, Locale, AllLocales, Cell, an_int}
+use Rattle.dpl_rules.specs.Types.{ValueType, Range, Domain, Tuple, an_int}
 use Rattle.dpl_rules.specs.Verdicts.{owed}
 use Rattle.dpl_rules.specs.Sights.{LoopVariable, Scopes, declared_here, enter, add, origin_in}
 use Rattle.dpl_rules.specs.Expressions.{item_type}
@@ -86,13 +86,7 @@ runs-typed word untasked xs (Domain rank strided) k runs e =
       ap (λ b. if (b && true) || (over_locales word && false) then variable_type xs (Domain rank strided) else None) (over-domains word untasked) ∙ typed.1,
       typed.2,
     )
-runs-typed word untasked xs (Scalar l) k runs e = absurd runs
-runs-typed word untasked xs (Array l o) k runs e = absurd runs
-runs-typed word untasked xs (Promoted l o) k runs e = absurd runs
-runs-typed word untasked xs (Tuple rank) k runs e = absurd runs
-runs-typed word untasked xs Locale k runs e = absurd runs
-runs-typed word untasked xs AllLocales k runs e = absurd runs
-runs-typed word untasked xs (Cell l) k runs e = absurd runs
+runs-typed word untasked xs _ k runs e = absurd runs
 
 module _ (ss : Scopes) (xs : VariablesTree Text) (item : ItemTree Text) (h : IsRunnableHeader ss xs item) where
   pub of_kind : value_kind h.type ≡ Some h.kind

@@ -1,14 +1,14 @@
 -- Types that have kinds: each operator, bracket and method gives one where it gives a type, of what has such types.
 -- Of what has no type nothing is said.
 use Rattle.std.proofs.Common.{◌≡◌, ℕ, Bool, true, false, List, [], ◌∷◌, ◌++◌, Option, Some, None, refl, sym, ap, ◌∙◌}
-use Rattle.std.specs.Prelude.{nat_lt, ◌&&◌, ◌||◌, not, if◌then◌else◌}
+use Rattle.std.specs.Prelude.{nat_lt, ◌&&◌, not, if◌then◌else◌}
 use Rattle.std.specs.Option.{option_or}
 use Rattle.std.proofs.lemmas.Option.{none-some}
 use Rattle.dpl_syntax.specs.declared.place.Place.{Place}
 use Rattle.dpl_syntax.specs.declared.refusal.Breach.{Breach}
 use Rattle.dpl_syntax.specs.declared.refusal.Code.TheVariants.{WrongType}
-use Rattle.dpl_language.specs.Tree.{Kind, IntKind, BoolKind, Prefix, Infix, Op, Word, Size, First, Last, Low, High, LowBound, DomainOf, Id}
-use Rattle.dpl_rules.specs.Types.{Over, ValueType, Scalar, Range, Domain, Array, Promoted, Tuple, Locale, AllLocales, Cell, an_int, a_bool, same_kind, domain_of, array_of, is_range, is_domain, is_int, is_bool, is_locale, Operand, operand_of, op_kind}
+use Rattle.dpl_language.specs.Tree.{Kind, IntKind, BoolKind, Prefix, Infix, Op, Word, LowBound, DomainOf}
+use Rattle.dpl_rules.specs.Types.{Over, ValueType, Scalar, Range, Domain, Array, Promoted, Tuple, Locale, AllLocales, Cell, an_int, a_bool, same_kind, domain_of, array_of, is_int, is_bool, Operand, operand_of, op_kind}
 use Rattle.dpl_rules.specs.Verdicts.{Part, Verdict, type_by, has_if, judged, with_type, owed, wanted, all_known, misranked, Has}
 use Rattle.dpl_rules.specs.Operators.{over_arrays, prefix_kind, prefixed, prefix_verdict, reduced_over, reduced, reduction_verdict, agree, Takes, Ints, Alike, Bools, taken, between, alike, taking, infix_verdict, range_verdict, index_breaches, slice_breaches, square_verdict, round_verdict, index_rank, domain_over, word_verdict, dim_verdict, contains_verdict, expand_verdict}
 use Rattle.dpl_sound.proofs.Given.{some-same}
@@ -158,14 +158,9 @@ domain_of-kind at =
     (λ l over r. just (Domain over.rank over.strided) (DomainKind, domain-kind over.rank over.strided r)) (λ l over r. nothing) (λ rank r. nothing)
 
 word_verdict-kind : (at : Place) (w : Word) (t : ValueType) (k : VariableKind) → value_kind t ≡ Some k → HasKind (type_by (word_verdict at w t))
-word_verdict-kind at Size t k e = has_if-kind (is_range t || is_domain t) an_int at an_int-kind
-word_verdict-kind at First t k e = has_if-kind (is_range t) an_int at an_int-kind
-word_verdict-kind at Last t k e = has_if-kind (is_range t) an_int at an_int-kind
-word_verdict-kind at Low t k e = has_if-kind (is_range t) an_int at an_int-kind
-word_verdict-kind at High t k e = has_if-kind (is_range t) an_int at an_int-kind
 word_verdict-kind at LowBound t k e = nothing
 word_verdict-kind at DomainOf t k e = domain_of-kind at t k e
-word_verdict-kind at Id t k e = has_if-kind (is_locale t) an_int at an_int-kind
+word_verdict-kind at _ t k e = has_if-kind _ an_int at an_int-kind
 
 pub word-kind : (at : Place) (w : Word) (o : Option ValueType) → HasKind o → HasKind (type_by (with_type o (word_verdict at w)))
 word-kind at w = with_type-kind (word_verdict at w) (word_verdict-kind at w)

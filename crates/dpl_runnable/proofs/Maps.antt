@@ -6,7 +6,7 @@ use Rattle.std.proofs.lemmas.Option.{none-some, same_Some}
 use Rattle.dpl_syntax.specs.declared.place.Place.{Place}
 use Rattle.dpl_syntax.specs.declared.refusal.Breach.{Breach}
 use Rattle.dpl_syntax.specs.declared.refusal.Code.TheVariants.{WrongType}
-use Rattle.dpl_language.specs.Tree.{AfterComma, ExprTree, Number, TruthWord, Named, LocalesWord, LocaleCount, HereWord, Grouped, DomainLiteral, Prefixed, Reduced, Chain, Postfixed, Posts, NoPosts, Post, PostTree, Brackets, Rounds, Dotted, Plainly, Dim, Contains, Expand, CellRead, Size, First, Last, Low, High, LowBound, DomainOf, Id}
+use Rattle.dpl_language.specs.Tree.{AfterComma, ExprTree, Number, TruthWord, Named, LocalesWord, LocaleCount, HereWord, Grouped, DomainLiteral, Prefixed, Reduced, Chain, Postfixed, Posts, NoPosts, Post, PostTree, Dotted, Plainly, Dim, Low, LowBound}
 use Rattle.dpl_language.specs.Tree.{StartTree, StartExpr, StartTuple, MapTree, BlockMap, CyclicMap, BlockCyclicMap, MappedTree, TypeTree, ScalarType, SyncType, DomainType, ArrayType, CreateTree, InitTree, ItemInit, CreateInit, TypedTree, InitialTree}
 use Rattle.dpl_language.specs.Names.{Text}
 use Rattle.dpl_language.specs.Declarations.{type_of as written_type}
@@ -37,13 +37,9 @@ use Rattle.dpl_runnable.proofs.Expressions.{not_bare, runnable, runnable_item}
 -- ---- `low` and `lowBound` behind what is simple are simple
 module _ (Holds : Text → Type 0) where
   low_post-simple : (p : PostTree Text) (e : ExprTree Text) (l : LowTree) → post_low p e ≡ Some l → IsSimplePost Holds p
-  low_post-simple (Brackets from items upto) e l is = absurd (none-some l is)
-  low_post-simple (Rounds from es upto) e l is = absurd (none-some l is)
   low_post-simple (Dotted dot (Plainly at w)) e l is = tt
   low_post-simple (Dotted dot (Dim at from rank_at d upto)) e l is = tt
-  low_post-simple (Dotted dot (Contains at from es upto)) e l is = absurd (none-some l is)
-  low_post-simple (Dotted dot (Expand at from x upto)) e l is = absurd (none-some l is)
-  low_post-simple (Dotted dot (CellRead at w from upto)) e l is = absurd (none-some l is)
+  low_post-simple _ e l is = absurd (none-some l is)
 
   low-simple : (ps : Posts Text) (e : ExprTree Text) (l : LowTree) → posts_low ps e ≡ Some l → AreSimplePosts Holds (front_of ps) → AreSimplePosts Holds ps × HasPosts ps
   low-simple NoPosts e l is simple = absurd (none-some l is)
@@ -52,20 +48,9 @@ module _ (Holds : Text → Type 0) where
 
 -- X of `X.low` is what stands before it
 post_low-of : (p : PostTree Text) (e : ExprTree Text) (l : LowTree) → post_low p e ≡ Some l → l.of ≡ e
-post_low-of (Brackets from items upto) e l is = absurd (none-some l is)
-post_low-of (Rounds from es upto) e l is = absurd (none-some l is)
-post_low-of (Dotted dot (Plainly at Size)) e l is = absurd (none-some l is)
-post_low-of (Dotted dot (Plainly at First)) e l is = absurd (none-some l is)
-post_low-of (Dotted dot (Plainly at Last)) e l is = absurd (none-some l is)
 post_low-of (Dotted dot (Plainly at Low)) e l is = sym (ap (λ (l : LowTree). l.of) (same_Some (record { of = e; at = at; bound = false }) l is))
-post_low-of (Dotted dot (Plainly at High)) e l is = absurd (none-some l is)
 post_low-of (Dotted dot (Plainly at LowBound)) e l is = sym (ap (λ (l : LowTree). l.of) (same_Some (record { of = e; at = at; bound = true }) l is))
-post_low-of (Dotted dot (Plainly at DomainOf)) e l is = absurd (none-some l is)
-post_low-of (Dotted dot (Plainly at Id)) e l is = absurd (none-some l is)
-post_low-of (Dotted dot (Dim at from rank_at d upto)) e l is = absurd (none-some l is)
-post_low-of (Dotted dot (Contains at from es upto)) e l is = absurd (none-some l is)
-post_low-of (Dotted dot (Expand at from x upto)) e l is = absurd (none-some l is)
-post_low-of (Dotted dot (CellRead at w from upto)) e l is = absurd (none-some l is)
+post_low-of _ e l is = absurd (none-some l is)
 
 low-of : (ps : Posts Text) (e : ExprTree Text) (l : LowTree) → posts_low ps e ≡ Some l → l.of ≡ e
 low-of NoPosts e l is = absurd (none-some l is)

@@ -10,7 +10,7 @@ use Rattle.dpl_language.specs.Tree.{Op, Kind, IntKind, BoolKind, Placed, Number,
 use Rattle.dpl_language.specs.Names.{Text}
 use Rattle.dpl_language.specs.Phrases.{declared_over}
 use Rattle.dpl_agreement.proofs.Slots.{same_slot, other_slot}
-use Rattle.dpl_rules.specs.Types.{Origin, Over, ValueType, Scalar, Range, Domain, Array, Promoted, Tuple, Locale, AllLocales, Cell, same_origin, has, is_domain, domain_of}
+use Rattle.dpl_rules.specs.Types.{Origin, Over, ValueType, Scalar, Range, Domain, Array, Promoted, Tuple, same_origin, has, is_domain, domain_of}
 use Rattle.dpl_rules.specs.Sights.{Declared, Scope, Scopes, find, lookup, declared_here, type_declared, origin_in}
 use Rattle.dpl_rules.specs.Verdicts.{type_by}
 use Rattle.dpl_rules.specs.Operators.{ranges_verdict, domain_or, over_verdict}
@@ -92,7 +92,6 @@ abbrev IfDomain : Option ValueType → VariableKind → Type 0
 IfDomain o k = (b : Bound) → if_domain k b ≡ (if has is_domain o then Some b else None)
 
 kind-domain : (o : Option ValueType) (k : VariableKind) → kind_by o ≡ Some k → IfDomain o k
-kind-domain None k e = absurd (none-some k e)
 kind-domain (Some (Scalar IntKind)) k e = subst (IfDomain (Some (Scalar IntKind))) (some-same (PlainKind IntLeaf) k e) (λ b. refl)
 kind-domain (Some (Scalar BoolKind)) k e = subst (IfDomain (Some (Scalar BoolKind))) (some-same (PlainKind TruthLeaf) k e) (λ b. refl)
 kind-domain (Some (Range strided)) k e = subst (IfDomain (Some (Range strided))) (some-same (PlainKind RangeLeaf) k e) (λ b. refl)
@@ -100,9 +99,7 @@ kind-domain (Some (Domain rank strided)) k e = subst (IfDomain (Some (Domain ran
 kind-domain (Some (Array l over)) k e = subst (IfDomain (Some (Array l over))) (kind_if-some (is_rank over.rank) (ArrayKind l) k e).1 (λ b. refl)
 kind-domain (Some (Promoted l over)) k e = subst (IfDomain (Some (Promoted l over))) (kind_if-some (is_rank over.rank) (ArrayKind l) k e).1 (λ b. refl)
 kind-domain (Some (Tuple rank)) k e = subst (IfDomain (Some (Tuple rank))) (kind_if-some (is_tuple_rank rank) TupleKind k e).1 (λ b. refl)
-kind-domain (Some Locale) k e = absurd (none-some k e)
-kind-domain (Some AllLocales) k e = absurd (none-some k e)
-kind-domain (Some (Cell l)) k e = absurd (none-some k e)
+kind-domain _ k e = absurd (none-some k e)
 
 -- the kind of a name's leaf, where it is in sight, and where it isn't
 leaf-found : (o : Option VariableKind) (p : Option ℕ) (k : VariableKind) → o ≡ Some k → is_some p ≡ true → (leaf_by o p).kind ≡ k
@@ -164,17 +161,10 @@ module _ (ss : Scopes) (known : AreKnownScopes ss) (intents : List (Bound × Op)
   domain-shape : (from : Place) (x : Placed Text) (t w : ValueType) (rank : ℕ) (strided : Bool) → is_domain t ≡ true
       → type_by (domain_or (domain_of t) (ranges_verdict from (item_parts ss (FirstItem (One (Named x)) NoItems)))) ≡ Some w → domain_of w ≡ Some (rank, strided)
       → shape_of t ≡ record { rank = rank; strided = strided }
-  domain-shape from x (Scalar k) w rank strided is e of = absurd (let f : false ≡ true = is in cc)
-  domain-shape from x (Range s) w rank strided is e of = absurd (let f : false ≡ true = is in cc)
   domain-shape from x (Domain n s) w rank strided is e of =
       let same : (n, s) ≡ (rank, strided) = some-same (n, s) (rank, strided) (ap domain_of (some-same (Domain n s) w e) ∙ of) in
       ap (λ (p : ℕ × Bool). record { rank = p.0; strided = p.1 }) same
-  domain-shape from x (Array k over) w rank strided is e of = absurd (let f : false ≡ true = is in cc)
-  domain-shape from x (Promoted k over) w rank strided is e of = absurd (let f : false ≡ true = is in cc)
-  domain-shape from x (Tuple n) w rank strided is e of = absurd (let f : false ≡ true = is in cc)
-  domain-shape from x Locale w rank strided is e of = absurd (let f : false ≡ true = is in cc)
-  domain-shape from x AllLocales w rank strided is e of = absurd (let f : false ≡ true = is in cc)
-  domain-shape from x (Cell k) w rank strided is e of = absurd (let f : false ≡ true = is in cc)
+  domain-shape from x _ w rank strided is e of = absurd (let f : false ≡ true = is in cc)
 
   module _ (from : Place) (w : ValueType) (rank : ℕ) (strided : Bool) (of : domain_of w ≡ Some (rank, strided)) where
     abbrev shape : Shape

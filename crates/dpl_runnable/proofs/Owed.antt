@@ -6,11 +6,11 @@ use Rattle.dpl_syntax.specs.declared.place.Place.{Place}
 use Rattle.dpl_syntax.specs.declared.refusal.Code.{Code}
 use Rattle.dpl_syntax.specs.declared.refusal.Code.TheVariants.{WrongType}
 use Rattle.dpl_language.specs.Tree.{Kind, IntKind, BoolKind}
-use Rattle.dpl_rules.specs.Types.{Over, ValueType, Scalar, Range, Domain, Array, Promoted, Tuple, Locale, AllLocales, Cell, same_kind, domain_of, is_any_scalar, is_domain, has, is_scalar, is_domain_of, agrees, fits_array}
+use Rattle.dpl_rules.specs.Types.{Over, ValueType, Scalar, Domain, Array, Promoted, same_kind, domain_of, is_any_scalar, is_domain, has, is_scalar, is_domain_of, agrees, fits_array}
 use Rattle.dpl_rules.specs.Verdicts.{owed, owed_type}
 use Rattle.dpl_words.specs.Words.{IntLeaf, TruthLeaf}
 use Rattle.dpl_sound.proofs.Given.{both_so}
-use Rattle.dpl_memory.specs.Memory.{VariableKind, PlainKind, DomainKind, TupleKind, CellKind, ArrayKind}
+use Rattle.dpl_memory.specs.Memory.{VariableKind, PlainKind, DomainKind, ArrayKind}
 use Rattle.dpl_runnable.specs.Kinds.{leaf_of, IsScalarKind, IsGivenTo}
 use Rattle.dpl_typed.specs.Typed.{is_rank}
 use Rattle.dpl_typed.specs.Leaves.{value_kind}
@@ -31,14 +31,7 @@ same_kind-is BoolKind BoolKind h = refl
 
 pub is_scalar-is : (k : Kind) (t : ValueType) → is_scalar k t ≡ true → t ≡ Scalar k
 is_scalar-is k (Scalar l) h = ap Scalar (same_kind-is k l h)
-is_scalar-is k (Range strided) h = absurd cc
-is_scalar-is k (Domain rank strided) h = absurd cc
-is_scalar-is k (Array l over) h = absurd cc
-is_scalar-is k (Promoted l over) h = absurd cc
-is_scalar-is k (Tuple rank) h = absurd cc
-is_scalar-is k Locale h = absurd cc
-is_scalar-is k AllLocales h = absurd cc
-is_scalar-is k (Cell l) h = absurd cc
+is_scalar-is k _ h = absurd cc
 
 -- ---- kinds
 -- what is of the kinds of ints and truth values is of a scalar's
@@ -48,25 +41,11 @@ scalar-by Q i t BoolKind k e = subst Q (kind-same (PlainKind TruthLeaf) k e) t
 
 pub is_any_scalar-kind : (t : ValueType) (k : VariableKind) → value_kind t ≡ Some k → is_any_scalar t ≡ true → IsScalarKind k
 is_any_scalar-kind (Scalar l) k e h = scalar-by IsScalarKind tt tt l k e
-is_any_scalar-kind (Range strided) k e h = absurd cc
-is_any_scalar-kind (Domain rank strided) k e h = absurd cc
-is_any_scalar-kind (Array l over) k e h = absurd cc
-is_any_scalar-kind (Promoted l over) k e h = absurd cc
-is_any_scalar-kind (Tuple rank) k e h = absurd cc
-is_any_scalar-kind Locale k e h = absurd cc
-is_any_scalar-kind AllLocales k e h = absurd cc
-is_any_scalar-kind (Cell l) k e h = absurd cc
+is_any_scalar-kind _ k e h = absurd cc
 
 pub is_domain-kind : (t : ValueType) (k : VariableKind) → value_kind t ≡ Some k → is_domain t ≡ true → k ≡ DomainKind
-is_domain-kind (Scalar l) k e h = absurd cc
-is_domain-kind (Range strided) k e h = absurd cc
 is_domain-kind (Domain rank strided) k e h = sym (kind_if-some (is_rank rank) DomainKind k e).1
-is_domain-kind (Array l over) k e h = absurd cc
-is_domain-kind (Promoted l over) k e h = absurd cc
-is_domain-kind (Tuple rank) k e h = absurd cc
-is_domain-kind Locale k e h = absurd cc
-is_domain-kind AllLocales k e h = absurd cc
-is_domain-kind (Cell l) k e h = absurd cc
+is_domain-kind _ k e h = absurd cc
 
 has-some : {A : Type 0} (test : A → Bool) (o : Option A) → has test o ≡ true → is_some o ≡ true
 has-some test None h = absurd cc
@@ -78,11 +57,8 @@ is_domain_of-kind rank may_stride t k e h = is_domain-kind t k e (has-some {A = 
 -- ---- what is given
 -- of its own kind
 pub same-given : (k j : VariableKind) → j ≡ k → IsGivenTo k j
-same-given (PlainKind l) j e = e
-same-given DomainKind j e = e
-same-given TupleKind j e = e
 same-given (ArrayKind l) j e = inl e
-same-given (CellKind c) j e = e
+same-given _ j e = e
 
 pub scalar-leaf : (l : Kind) → value_kind (Scalar l) ≡ Some (PlainKind (leaf_of l))
 scalar-leaf IntKind = refl
@@ -96,18 +72,13 @@ elements-given : (l : Kind) (over : Over) (t : ValueType) (j : VariableKind) →
 elements-given l over (Scalar m) j e h =
     let same = same_kind-is l m (both_so (same_kind l m) (agrees over None) h).0 in
     inr (sym (kind-same (PlainKind (leaf_of m)) j (sym (scalar-leaf m) ∙ e)) ∙ ap (λ m. PlainKind (leaf_of m)) same)
-elements-given l over (Range strided) j e h = absurd cc
-elements-given l over (Domain rank strided) j e h = absurd cc
 elements-given l over (Array m other) j e h =
     let same = same_kind-is l m (both_so (same_kind l m) (agrees over (Some other)) h).0 in
     inl (sym (array-kind m other j e) ∙ ap ArrayKind same)
 elements-given l over (Promoted m other) j e h =
     let same = same_kind-is l m (both_so (same_kind l m) (agrees over (Some other)) h).0 in
     inl (sym (array-kind m other j e) ∙ ap ArrayKind same)
-elements-given l over (Tuple rank) j e h = absurd cc
-elements-given l over Locale j e h = absurd cc
-elements-given l over AllLocales j e h = absurd cc
-elements-given l over (Cell m) j e h = absurd cc
+elements-given l over _ j e h = absurd cc
 
 -- to a variable of some type a value for which that type's test holds
 module _ (k : VariableKind) (t : ValueType) (j : VariableKind) (e : value_kind t ≡ Some j) where

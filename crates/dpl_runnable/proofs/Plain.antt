@@ -3,7 +3,7 @@
 use Rattle.std.proofs.Common.{◌≡◌, ℕ, true, List, [], ◌∷◌, Option, Some, None, is_some, refl, sym, ap, ◌∙◌, subst}
 use Rattle.std.proofs.lemmas.Option.{none-some}
 use Rattle.dpl_syntax.specs.declared.place.Place.{Place}
-use Rattle.dpl_language.specs.Tree.{Op, WithTree, Assign, Set, SetAdd, SetSubtract, SetMultiply, SetDivide, SetRemainder, SetReduce, Kind, IntKind, BoolKind, ExprTree, ItemTree, VariablesTree, TypeTree, ScalarType, SyncType, DomainType, ArrayType, MappedTree, InitTree, ItemInit, CreateInit, InitialTree, DeclareTree}
+use Rattle.dpl_language.specs.Tree.{Op, WithTree, Assign, SetReduce, Kind, IntKind, BoolKind, ExprTree, ItemTree, VariablesTree, TypeTree, ScalarType, SyncType, DomainType, ArrayType, MappedTree, InitTree, ItemInit, CreateInit, InitialTree, DeclareTree}
 use Rattle.dpl_language.specs.Tree.{ArgumentTree, TextArgument, ExprArgument, Whole, Element, OnWord, LoopWord, ForWord, ForallWord, CoforallWord, StmtTree, Nothing, Declare, Assigned, Call, Write, Block, If, Headed, Loop, Body, WordBody, BlockBody, Stmts, NoStmts, Then, Else, NoElse, ElseDo}
 use Rattle.dpl_language.specs.Names.{Text}
 use Rattle.dpl_language.specs.Writing.{arguments_of}
@@ -103,13 +103,8 @@ reducible-type None k e h = absurd (none-some k e)
 reducible-type (Some t) k e h = scalar-any t k e h
 
 reducible : (ss : Scopes) (is : List (Bound × Op)) (x : Text) (op : Assign) (k : VariableKind) → kind_in ss x ≡ Some k → IsReducedBy ss is x op k → IsReducible op (type_in ss x)
-reducible ss is x Set k e h = tt
-reducible ss is x SetAdd k e h = tt
-reducible ss is x SetSubtract k e h = tt
-reducible ss is x SetMultiply k e h = tt
-reducible ss is x SetDivide k e h = tt
-reducible ss is x SetRemainder k e h = tt
 reducible ss is x SetReduce k e h = reducible-type (type_in ss x) k e h.1
+reducible ss is x _ k e h = tt
 
 -- ---- heads
 expr-plain : (ss : Scopes) (e : ExprTree Text) (k : VariableKind) → AreKnownScopes ss → IsExprOf ss e k → IsPlainExpr ss e

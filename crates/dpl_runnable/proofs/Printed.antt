@@ -15,8 +15,8 @@ use Rattle.dpl_rules.specs.Sights.{Scopes, Reducing}
 use Rattle.dpl_rules.specs.Expressions.{type_of, expr_breaches, side_part, side_breaches}
 use Rattle.dpl_rules.specs.Assignments.{is_printed, printed_breaches, condition_breaches}
 use Rattle.dpl_rules.proofs.Admission.{first_empty, second_empty}
-use Rattle.dpl_words.specs.Words.{IntLeaf, TruthLeaf, RangeLeaf, LocaleLeaf}
-use Rattle.dpl_memory.specs.Memory.{VariableKind, PlainKind, DomainKind, TupleKind, CellKind, ArrayKind}
+use Rattle.dpl_words.specs.Words.{IntLeaf, TruthLeaf}
+use Rattle.dpl_memory.specs.Memory.{VariableKind, PlainKind}
 use Rattle.dpl_typed.specs.Leaves.{value_kind, kind_by}
 use Rattle.dpl_nodes.specs.Spots.{IsNear}
 use Rattle.dpl_runnable.specs.Kinds.{AreVariables, IsScalarKind}
@@ -31,12 +31,7 @@ use Rattle.dpl_runnable.proofs.Changes.{untasked}
 scalar-shown : (k : VariableKind) (e : ExprTree Text) → IsScalarKind k → IsShown k e
 scalar-shown (PlainKind IntLeaf) e h = tt
 scalar-shown (PlainKind TruthLeaf) e h = tt
-scalar-shown (PlainKind RangeLeaf) e h = absurd h
-scalar-shown (PlainKind LocaleLeaf) e h = absurd h
-scalar-shown DomainKind e h = absurd h
-scalar-shown TupleKind e h = absurd h
-scalar-shown (ArrayKind l) e h = absurd h
-scalar-shown (CellKind c) e h = absurd h
+scalar-shown _ e h = absurd h
 
 module _ (t : ValueType) (k : VariableKind) (of_kind : value_kind t ≡ Some k) where
   named-shown : (x : Placed Text) → is_printed (Some x) t ≡ true → IsShown k (Named x)

@@ -22,7 +22,7 @@ use Rattle.dpl_scopes.specs.Slots.{next_slot_in, slot_in}
 use Rattle.dpl_scopes.proofs.Slots.{slot_in-add, slot_in-lookup}
 use Rattle.dpl_given.proofs.Slots.{slot_in-one}
 use Rattle.dpl_words.specs.Words.{IntLeaf, TruthLeaf}
-use Rattle.dpl_memory.specs.Memory.{VariableKind, PlainKind, DomainKind, TupleKind, CellKind, ArrayKind}
+use Rattle.dpl_memory.specs.Memory.{VariableKind, PlainKind}
 use Rattle.dpl_memory.specs.Resolved.{text_of, KindCombines}
 use Rattle.dpl_typed.specs.Leaves.{value_kind, kind_by, kind_in, leaf_by, leaf_in}
 use Rattle.dpl_bound.specs.Sights.{bound_in}
@@ -64,10 +64,7 @@ op_kind-combines Greatest k e = by_kind Greatest (PlainKind IntLeaf) k refl e
 
 kind-uncombined : (k : VariableKind) → KindCombines k None
 kind-uncombined (PlainKind l) = tt
-kind-uncombined DomainKind = tt
-kind-uncombined TupleKind = tt
-kind-uncombined (ArrayKind l) = tt
-kind-uncombined (CellKind c) = tt
+kind-uncombined _ = tt
 
 -- a name that is known has a slot
 pub slot-found : (o : Option Declared) (slot : Option ℕ) (k : VariableKind) → is_some slot ≡ is_some o → kind_by (type_declared o) ≡ Some k → (n : ℕ) × (slot ≡ Some n)

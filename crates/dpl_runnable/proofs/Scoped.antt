@@ -28,7 +28,7 @@ use Rattle.dpl_rules.proofs.Left.{leave_behind, leave_behind_all}
 use Rattle.dpl_sound.proofs.Given.{some-same, judged-gives, with_type-gives}
 use Rattle.dpl_scopes.specs.Slots.{count_in, next_slot_in}
 use Rattle.dpl_words.specs.Words.{IntLeaf, TruthLeaf, RangeLeaf}
-use Rattle.dpl_memory.specs.Memory.{VariableKind, PlainKind, DomainKind, TupleKind, CellKind, ArrayKind}
+use Rattle.dpl_memory.specs.Memory.{VariableKind, PlainKind, DomainKind, ArrayKind}
 use Rattle.dpl_memory.specs.Resolved.{Bound, Start, sighted, bind, domain_among, over_of, IsWhole, resolving}
 use Rattle.dpl_runnable.specs.Kinds.{is_promoted}
 use Rattle.dpl_typed.specs.Leaves.{kind_if, value_kind, kind_by, leaf_by}
@@ -49,15 +49,7 @@ next_open s ss = omega arith
 -- an empty scope has no domain in sight
 over_by-empty : (self : Origin) (t : Option ValueType) → over_by ([] ∷ []) self t ≡ over_by [] self t
 over_by-empty self None = refl
-over_by-empty self (Some (Scalar k)) = refl
-over_by-empty self (Some (Range strided)) = refl
-over_by-empty self (Some (Domain rank strided)) = refl
-over_by-empty self (Some (Array k over)) = refl
-over_by-empty self (Some (Promoted k over)) = refl
-over_by-empty self (Some (Tuple rank)) = refl
-over_by-empty self (Some Locale) = refl
-over_by-empty self (Some AllLocales) = refl
-over_by-empty self (Some (Cell k)) = refl
+over_by-empty self _ = refl
 
 pub sight_of-next : (d : Declared) (ss : Scopes) → sight_of (add d ss) ≡ bind (sighted_at ss d (next_slot_in ss)) (sight_of ss)
 sight_of-next d [] = ap (λ o. (record (sighted (bound_at d 1) PlainForm) { over = o } ∷ []) ∷ []) (over_by-empty d.origin d.type)
@@ -95,11 +87,8 @@ added-new d (s ∷ ss) h = ap is_some h.0.1
 
 -- A NAME THAT IS NO ARRAY'S is declared as a plain variable, and is over no domain.
 pub single-no_array : (k : VariableKind) → is_promoted k ≡ false → IsWhole k → ⊥
-single-no_array (PlainKind k) e h = h
-single-no_array DomainKind e h = h
-single-no_array TupleKind e h = h
 single-no_array (ArrayKind k) e h = let f : true ≡ false = e in cc
-single-no_array (CellKind c) e h = h
+single-no_array _ e h = h
 
 pub new-no_array : (ss : Scopes) (d : Declared) (k : VariableKind) → kind_by d.type ≡ Some k → is_promoted k ≡ false → IsWhole (bound_new ss d).variable.kind → ⊥
 new-no_array ss d k kind single = subst (λ o. IsWhole (leaf_by o (Some (next_slot_in ss))).kind → ⊥) (sym kind) (single-no_array k single)
@@ -112,26 +101,12 @@ array-promoted : (b : Bool) (l : Kind) (k : VariableKind) → kind_if b (ArrayKi
 array-promoted b l k e single = let f : true ≡ false = ap is_promoted (kind_if-some b (ArrayKind l) k e).1 ∙ single in cc
 
 pub single-over : (t : ValueType) (k : VariableKind) → value_kind t ≡ Some k → is_promoted k ≡ false → IsOverNone (Some t)
-single-over (Scalar l) k e single = λ ss self. refl
-single-over (Range strided) k e single = λ ss self. refl
-single-over (Domain rank strided) k e single = λ ss self. refl
 single-over (Array l over) k e single = absurd (array-promoted (is_rank over.rank) l k e single)
-single-over (Promoted l over) k e single = λ ss self. refl
-single-over (Tuple rank) k e single = λ ss self. refl
-single-over Locale k e single = λ ss self. refl
-single-over AllLocales k e single = λ ss self. refl
-single-over (Cell l) k e single = λ ss self. refl
+single-over _ k e single = λ ss self. refl
 
 pub single-type : (t : ValueType) (k : VariableKind) → value_kind t ≡ Some k → is_promoted k ≡ false → is_promoted_type t ≡ false
-single-type (Scalar l) k e single = refl
-single-type (Range strided) k e single = refl
-single-type (Domain rank strided) k e single = refl
-single-type (Array l over) k e single = refl
 single-type (Promoted l over) k e single = absurd (array-promoted (is_rank over.rank) l k e single)
-single-type (Tuple rank) k e single = refl
-single-type Locale k e single = refl
-single-type AllLocales k e single = refl
-single-type (Cell l) k e single = refl
+single-type _ k e single = refl
 
 -- ---- DECLARATIONS: a name without a type is no array's
 pub unless-both : (bs : List Breach) (o : Option ValueType) (t : ValueType) → unless_refused bs o ≡ Some t → (bs ≡ []) × (o ≡ Some t)
@@ -151,15 +126,8 @@ kept-single AllLocales k h e = absurd (none-some k e)
 kept-single (Cell l) k h e = absurd (none-some k e)
 
 kept-over : (ss : Scopes) (self : Origin) (t : ValueType) → is_kept t ≡ true → over_by ss self (Some t) ≡ None
-kept-over ss self (Scalar k) h = refl
-kept-over ss self (Range strided) h = refl
-kept-over ss self (Domain rank strided) h = refl
 kept-over ss self (Array l over) h = absurd (let f : false ≡ true = h in cc)
-kept-over ss self (Promoted l over) h = refl
-kept-over ss self (Tuple rank) h = refl
-kept-over ss self Locale h = refl
-kept-over ss self AllLocales h = refl
-kept-over ss self (Cell l) h = refl
+kept-over ss self _ h = refl
 
 pub kind-typed : (o : Option ValueType) (k : VariableKind) → kind_by o ≡ Some k → (t : ValueType) × (o ≡ Some t)
 kind-typed None k e = absurd (none-some k e)

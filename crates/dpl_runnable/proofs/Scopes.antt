@@ -16,7 +16,7 @@ use Rattle.dpl_grammar.specs.Each.{IfThere}
 use Rattle.dpl_spelling.specs.Spelt.{ItemSpelt, TypeSpelt, InitSpelt, TypedSpelt, InitialSpelt, DeclareSpelt}
 use Rattle.dpl_agreement.specs.Untasked.{UntaskedIf, UntaskedItem, UntaskedType, UntaskedTyped, UntaskedInit, UntaskedInitial, UntaskedDeclare}
 use Rattle.dpl_syntax.specs.declared.refusal.Code.TheVariants.{WrongType, WrongRank}
-use Rattle.dpl_rules.specs.Types.{Origin, ValueType, Scalar, Range, Domain, Array, Promoted, Tuple, Locale, AllLocales, Cell, is_domain, an_int, cell_of}
+use Rattle.dpl_rules.specs.Types.{Origin, ValueType, Scalar, Domain, Promoted, Tuple, is_domain, an_int, cell_of}
 use Rattle.dpl_rules.specs.Verdicts.{owed, owed_type, breach}
 use Rattle.dpl_rules.specs.Places.{first_of_item, first_of_variables}
 use Rattle.dpl_rules.specs.Sights.{Declared, LoopVariable, Scopes, find, lookup, type_declared, origin_in, add, enter}
@@ -64,27 +64,13 @@ domain-variable rank strided r = record { kind = DomainKind; type = _; is = refl
 
 -- a name without a type is given nothing promoted
 is_kept-single : (t : ValueType) → is_kept t ≡ true → is_promoted_type t ≡ false
-is_kept-single (Scalar k) h = refl
-is_kept-single (Range strided) h = refl
-is_kept-single (Domain rank strided) h = refl
-is_kept-single (Array k over) h = refl
 is_kept-single (Promoted k over) h = absurd cc
-is_kept-single (Tuple rank) h = refl
-is_kept-single Locale h = refl
-is_kept-single AllLocales h = refl
-is_kept-single (Cell k) h = refl
+is_kept-single _ h = refl
 
 -- what is mapped is a domain, which may be kept too
 pub is_domain-kept : (t : ValueType) → is_domain t ≡ true → is_kept t ≡ true
-is_domain-kept (Scalar k) h = absurd cc
-is_domain-kept (Range strided) h = absurd cc
 is_domain-kept (Domain rank strided) h = refl
-is_domain-kept (Array k over) h = absurd cc
-is_domain-kept (Promoted k over) h = absurd cc
-is_domain-kept (Tuple rank) h = absurd cc
-is_domain-kept Locale h = absurd cc
-is_domain-kept AllLocales h = absurd cc
-is_domain-kept (Cell k) h = absurd cc
+is_domain-kept _ h = absurd cc
 
 pub is_untyped-kept : (mapped : Option (MappedTree Text)) (t : ValueType) → is_untyped mapped t ≡ true → is_kept t ≡ true
 is_untyped-kept None t h = h

@@ -79,15 +79,8 @@ typed-held (Cell l) k v e single h = absurd (none-some k e)
 
 -- evaluated once, what is no array has a value of its own type
 once-typed : (t : ValueType) (k : VariableKind) (v : Value) → value_kind t ≡ Some k → is_promoted k ≡ false → HasType v (type_at t None) → HasType v t
-once-typed (Scalar l) k v e single h = h
-once-typed (Range strided) k v e single h = h
-once-typed (Domain rank strided) k v e single h = h
-once-typed (Array l over) k v e single h = h
 once-typed (Promoted l over) k v e single h = whole-absurd k l (kind_if-some (is_rank over.rank) (ArrayKind l) k e).1 single _
-once-typed (Tuple rank) k v e single h = h
-once-typed Locale k v e single h = h
-once-typed AllLocales k v e single h = h
-once-typed (Cell l) k v e single h = h
+once-typed _ k v e single h = h
 
 -- A SHAPE THAT IS TAKEN: of a wider stride, and the same rank
 wider : (may strided : Bool) (rs : List TextRange) → (may || not strided) ≡ true → MayStride strided rs → MayStride may rs
@@ -100,28 +93,14 @@ both true b e = (refl, e)
 both false b e = absurd (let f : false ≡ true = e in cc)
 
 range-taken : (strided : Bool) (u : ValueType) (v : Value) → takes_shape (Range strided) u ≡ true → HasType v (type_at u None) → HasShape (PlainKind RangeLeaf) (shape_of (Range strided)) v
-range-taken strided (Scalar l) v e h = absurd (let f : false ≡ true = e in cc)
 range-taken strided (Range other) v e h = subst (HasShape (PlainKind RangeLeaf) (shape_of (Range strided))) (sym h.1) (wider strided other (h.0 ∷ []) e h.2)
-range-taken strided (Domain rank other) v e h = absurd (let f : false ≡ true = e in cc)
-range-taken strided (Array l over) v e h = absurd (let f : false ≡ true = e in cc)
-range-taken strided (Promoted l over) v e h = absurd (let f : false ≡ true = e in cc)
-range-taken strided (Tuple rank) v e h = absurd (let f : false ≡ true = e in cc)
-range-taken strided Locale v e h = absurd (let f : false ≡ true = e in cc)
-range-taken strided AllLocales v e h = absurd (let f : false ≡ true = e in cc)
-range-taken strided (Cell l) v e h = absurd (let f : false ≡ true = e in cc)
+range-taken strided _ v e h = absurd (let f : false ≡ true = e in cc)
 
 domain-taken : (rank : ℕ) (strided : Bool) (u : ValueType) (v : Value) → takes_shape (Domain rank strided) u ≡ true → HasType v (type_at u None) → HasShape DomainKind (shape_of (Domain rank strided)) v
-domain-taken rank strided (Scalar l) v e h = absurd (let f : false ≡ true = e in cc)
-domain-taken rank strided (Range other) v e h = absurd (let f : false ≡ true = e in cc)
 domain-taken rank strided (Domain n other) v e h =
     let (same, may) = both (n == rank) (strided || not other) e in
     subst (HasShape DomainKind (shape_of (Domain rank strided))) (sym h.1) (h.2.0 ∙ (Decides-eqb n rank).0 same, wider strided other h.0 may h.2.1)
-domain-taken rank strided (Array l over) v e h = absurd (let f : false ≡ true = e in cc)
-domain-taken rank strided (Promoted l over) v e h = absurd (let f : false ≡ true = e in cc)
-domain-taken rank strided (Tuple n) v e h = absurd (let f : false ≡ true = e in cc)
-domain-taken rank strided Locale v e h = absurd (let f : false ≡ true = e in cc)
-domain-taken rank strided AllLocales v e h = absurd (let f : false ≡ true = e in cc)
-domain-taken rank strided (Cell l) v e h = absurd (let f : false ≡ true = e in cc)
+domain-taken rank strided _ v e h = absurd (let f : false ≡ true = e in cc)
 
 pub taken-shape : (t u : ValueType) (k : VariableKind) (v : Value) → value_kind t ≡ Some k → is_promoted k ≡ false → takes_shape t u ≡ true → HasType v (type_at u None) → HasShape k (shape_of t) v
 taken-shape (Scalar IntKind) u k v e single taken h = subst (λ k. HasShape k (shape_of (Scalar IntKind)) v) (some-same (PlainKind IntLeaf) k e) tt

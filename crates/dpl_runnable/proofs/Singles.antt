@@ -69,7 +69,4 @@ declared-single (CellKind c) h = absurd h
 
 pub scalar-leaf : (k : VariableKind) → IsScalarKind k → (l : LeafKind) × (k ≡ PlainKind l)
 scalar-leaf (PlainKind l) h = (l, refl)
-scalar-leaf DomainKind h = absurd h
-scalar-leaf TupleKind h = absurd h
-scalar-leaf (ArrayKind k) h = absurd h
-scalar-leaf (CellKind c) h = absurd h
+scalar-leaf _ h = absurd h

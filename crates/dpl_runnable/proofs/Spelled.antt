@@ -9,7 +9,7 @@ use Rattle.dpl_language.specs.Tree.{Placed, Stmts, Declare}
 use Rattle.dpl_grammar.specs.Each.{Each}
 use Rattle.dpl_grammar.specs.Rule.{Deep, below, deep}
 use Rattle.dpl_grammar.proofs.Values.{never_holds, OfRule, OfLate, of_any, of_token, of_either, of_many, of_whole, of_part, of_deeper, of_parts, of_closed, of_choice, of_ended, of_dangling, of_last, of_lower}
-use Rattle.dpl_spelling.specs.Nested.{Nested, Value, Statement, ItemBelow, ExpressionBelow, NegBelow, NotBelow, RedBelow, StartBelow, InsideBelow, StatementBelow, PlainBelow, nested, Rule, Late}
+use Rattle.dpl_spelling.specs.Nested.{Nested, Value, Statement, StatementBelow, PlainBelow, nested, Rule, Late}
 use Rattle.dpl_spelling.specs.Declarations.{declare_end, declaration, config_declaration}
 use Rattle.dpl_spelling.specs.Statements.{assignment_end, call_end, named_statement, output, stmts_of, block, part, body, Conditional, consequence, Otherwise, alternative, if_else, while_loop, on_locale, variables, LoopHead, loop_head, for_loop, ParallelHead, parallel_head, forall_loop, coforall_loop, simple_statement, plain_statement, statement}
 use Rattle.dpl_spelling.specs.Grammar.{Program, top, tops, program, grammar}
@@ -21,15 +21,9 @@ Anything x = Unit {0}
 
 -- of the value of each rule that may stand one level deeper
 abbrev NestedWritten : (n : Nested) → Value n → Type 0
-NestedWritten ItemBelow x = Unit {0}
-NestedWritten ExpressionBelow x = Unit {0}
-NestedWritten NegBelow x = Unit {0}
-NestedWritten NotBelow x = Unit {0}
-NestedWritten RedBelow x = Unit {0}
-NestedWritten StartBelow x = Unit {0}
-NestedWritten InsideBelow x = Unit {0}
 NestedWritten StatementBelow x = IsWrittenStmt x
 NestedWritten PlainBelow x = IsWrittenStmt x
+NestedWritten _ x = Unit {0}
 
 stmts-written : (ss : List Statement) → Each IsWrittenStmt ss → AreWrittenStmts (stmts_of ss)
 stmts-written [] h = tt
@@ -177,15 +171,9 @@ module _ (g : Deep nested) (inner : (n : Nested) → OfRule g Anything (below n)
 -- one level deeper
 deeper-written : (d : ℕ) → ((n : Nested) → OfRule (deep grammar d) Anything (below n) (NestedWritten n)) → (n : Nested) → OfRule (deep grammar (suc d)) Anything (below n) (NestedWritten n)
 unfolding grammar
-deeper-written d inner ItemBelow = of_any
-deeper-written d inner ExpressionBelow = of_any
-deeper-written d inner NegBelow = of_any
-deeper-written d inner NotBelow = of_any
-deeper-written d inner RedBelow = of_any
-deeper-written d inner StartBelow = of_any
-deeper-written d inner InsideBelow = of_any
 deeper-written d inner StatementBelow = record { holds = (statement-written (deep grammar d) inner).holds }
 deeper-written d inner PlainBelow = record { holds = (plain_statement-written (deep grammar d) inner).holds }
+deeper-written d inner _ = of_any
 
 below-written : (d : ℕ) (n : Nested) → OfRule (deep grammar d) Anything (below n) (NestedWritten n)
 below-written zero n = record { holds = never_holds Anything (NestedWritten n) }

@@ -57,14 +57,9 @@ turn-value u j k t v e kind h =
 
 once-value : (u : ValueType) (k : Kind) (v : Value) (o : Operand) → operand_of u ≡ Some o → o.kind ≡ k → (is_array u ≡ true → ⊥) → HasType v (type_at u None) → OfKind k v
 once-value (Scalar l) k v o e kind single h = subst (λ k. OfKind k v) (ap (λ (o : Operand). o.kind) (some-same _ o e) ∙ kind) h
-once-value (Range strided) k v o e kind single h = absurd (none-some o e)
-once-value (Domain rank strided) k v o e kind single h = absurd (none-some o e)
 once-value (Array l over) k v o e kind single h = absurd (single refl)
 once-value (Promoted l over) k v o e kind single h = subst (λ k. OfKind k v) (ap (λ (o : Operand). o.kind) (some-same _ o e) ∙ kind) h
-once-value (Tuple rank) k v o e kind single h = absurd (none-some o e)
-once-value Locale k v o e kind single h = absurd (none-some o e)
-once-value AllLocales k v o e kind single h = absurd (none-some o e)
-once-value (Cell l) k v o e kind single h = absurd (none-some o e)
+once-value _ k v o e kind single h = absurd (none-some o e)
 
 element-value : (k : Kind) (v : Value) → OfKind k v → IsElement k v
 element-value IntKind v h = h
@@ -86,17 +81,11 @@ abbrev IsRankedBy : ValueType → List TextRange → Type 0
 IsRankedBy w rs = (rank : ℕ) (strided : Bool) → domain_type w ≡ Some (rank, strided) → AreRanked rank strided rs
 
 domain-ranked : (w : ValueType) (v : Value) → HasType v w → IsRankedBy w (ranges_in v)
-domain-ranked (Scalar k) v h rank strided e = absurd (none-some (rank, strided) e)
-domain-ranked (Range s) v h rank strided e = absurd (none-some (rank, strided) e)
 domain-ranked (Domain n s) v h rank strided e =
     let same : (n, s) ≡ (rank, strided) = some-same (n, s) (rank, strided) e in
     subst (λ p. AreRanked p.0 p.1 (ranges_in v)) same (subst (λ v. AreRanked n s (ranges_in v)) (sym h.1) h.2)
-domain-ranked (Array k over) v h rank strided e = absurd (none-some (rank, strided) e)
 domain-ranked (Promoted k over) v h rank strided e = absurd h
-domain-ranked (Tuple n) v h rank strided e = absurd (none-some (rank, strided) e)
-domain-ranked Locale v h rank strided e = absurd (none-some (rank, strided) e)
-domain-ranked AllLocales v h rank strided e = absurd (none-some (rank, strided) e)
-domain-ranked (Cell k) v h rank strided e = absurd (none-some (rank, strided) e)
+domain-ranked _ v h rank strided e = absurd (none-some (rank, strided) e)
 
 module _ (from at : Place) (v : Value) where
   by_ranges : (ps : List Part) (w : ValueType) (vs : List Value) → type_by (ranges_verdict from ps) ≡ Some w → HaveTypes vs ps → sized at (all_ranges vs) ≡ Ok v → IsRankedBy w (ranges_in v)
@@ -112,15 +101,8 @@ module _ (from at : Place) (v : Value) where
   by_domain rank strided p w (u ∷ x ∷ vs) is e h ok = absurd h.1
 
   by_part : (p : Part) (t w : ValueType) (vs : List Value) → p.type ≡ Some t → type_by (domain_or (domain_type t) (ranges_verdict from (p ∷ []))) ≡ Some w → HaveTypes vs (p ∷ []) → sized at (all_ranges vs) ≡ Ok v → IsRankedBy w (ranges_in v)
-  by_part p (Scalar k) w vs is e h ok = by_ranges (p ∷ []) w vs e h ok
-  by_part p (Range strided) w vs is e h ok = by_ranges (p ∷ []) w vs e h ok
   by_part p (Domain rank strided) w vs is e h ok = by_domain rank strided p w vs is e h ok
-  by_part p (Array k over) w vs is e h ok = by_ranges (p ∷ []) w vs e h ok
-  by_part p (Promoted k over) w vs is e h ok = by_ranges (p ∷ []) w vs e h ok
-  by_part p (Tuple rank) w vs is e h ok = by_ranges (p ∷ []) w vs e h ok
-  by_part p Locale w vs is e h ok = by_ranges (p ∷ []) w vs e h ok
-  by_part p AllLocales w vs is e h ok = by_ranges (p ∷ []) w vs e h ok
-  by_part p (Cell k) w vs is e h ok = by_ranges (p ∷ []) w vs e h ok
+  by_part p _ w vs is e h ok = by_ranges (p ∷ []) w vs e h ok
 
   by_verdict : (ps : List Part) (w : ValueType) (vs : List Value) → type_by (over_verdict from ps) ≡ Some w → HaveTypes vs ps → sized at (all_ranges vs) ≡ Ok v → IsRankedBy w (ranges_in v)
   by_verdict [] w vs e h ok = by_ranges [] w vs e h ok
@@ -156,10 +138,7 @@ created-shape (Domain rank may) w rs v kind taken is ranked = by w taken ranked
     by (Cell k) taken ranked = absurd (let f : false ≡ true = taken in cc)
 created-shape (Array k over) w rs v kind taken is ranked = let same : ArrayKind k ≡ DomainKind = (kind_if-some (is_rank over.rank) (ArrayKind k) DomainKind kind).1 in cc
 created-shape (Promoted k over) w rs v kind taken is ranked = let same : ArrayKind k ≡ DomainKind = (kind_if-some (is_rank over.rank) (ArrayKind k) DomainKind kind).1 in cc
-created-shape (Tuple n) w rs v kind taken is ranked = absurd (let f : false ≡ true = taken in cc)
-created-shape Locale w rs v kind taken is ranked = absurd (let f : false ≡ true = taken in cc)
-created-shape AllLocales w rs v kind taken is ranked = absurd (let f : false ≡ true = taken in cc)
-created-shape (Cell k) w rs v kind taken is ranked = absurd (let f : false ≡ true = taken in cc)
+created-shape _ w rs v kind taken is ranked = absurd (let f : false ≡ true = taken in cc)
 
 module _ (scopes : Scopes) (known : AreKnownScopes scopes) (intents : List (Bound × Op)) where
   abbrev g : Seen

@@ -13,7 +13,7 @@ use Rattle.dpl_sound.specs.Typed.{OfKind, HasType, type_at}
 use Rattle.dpl_sound.proofs.Given.{some-same}
 use Rattle.dpl_sound.proofs.Outcomes.{type_at-operand}
 use Rattle.dpl_words.specs.Words.{LeafKind}
-use Rattle.dpl_memory.specs.Memory.{VariableKind, PlainKind, DomainKind, TupleKind, CellKind, ArrayKind}
+use Rattle.dpl_memory.specs.Memory.{VariableKind, PlainKind, ArrayKind}
 use Rattle.dpl_memory.specs.Resolved.{Bound, Shape, Seen, IsElement, HasNoArray, GivesOnce, SuitsKind, OrReplies, Suits, SuitsElement}
 use Rattle.dpl_memory.proofs.Suiting.{unread-suits}
 use Rattle.dpl_runnable.specs.Kinds.{operand_kind, leaf_of, is_promoted, IsGivenTo}
@@ -53,11 +53,8 @@ element-value BoolKind v h = h
 
 -- ---- KINDS
 kind-suits : (k : VariableKind) (shape : Shape) (item : ItemTree Bound) (g : Seen) → is_promoted k ≡ false → GivesOnce k shape item g → SuitsKind k shape item g
-kind-suits (PlainKind k) shape item g single h = h
-kind-suits DomainKind shape item g single h = h
-kind-suits TupleKind shape item g single h = h
 kind-suits (ArrayKind k) shape item g single h = absurd (let f : true ≡ false = single in cc)
-kind-suits (CellKind c) shape item g single h = h
+kind-suits _ shape item g single h = h
 
 leaf-operand : (l : Kind) → operand_kind (PlainKind (leaf_of l)) ≡ Some l
 leaf-operand IntKind = refl
@@ -65,15 +62,8 @@ leaf-operand BoolKind = refl
 
 -- what is of an element's kind is no whole array
 leaf-array : (u : ValueType) (l : LeafKind) → value_kind u ≡ Some (PlainKind l) → is_array u ≡ true → ⊥
-leaf-array (Scalar k) l e h = let f : false ≡ true = h in cc
-leaf-array (Range strided) l e h = let f : false ≡ true = h in cc
-leaf-array (Domain rank strided) l e h = let f : false ≡ true = h in cc
 leaf-array (Array k over) l e h = let f : ArrayKind k ≡ PlainKind l = (kind_if-some (is_rank over.rank) (ArrayKind k) (PlainKind l) e).1 in cc
-leaf-array (Promoted k over) l e h = let f : false ≡ true = h in cc
-leaf-array (Tuple rank) l e h = let f : false ≡ true = h in cc
-leaf-array Locale l e h = let f : false ≡ true = h in cc
-leaf-array AllLocales l e h = let f : false ≡ true = h in cc
-leaf-array (Cell k) l e h = let f : false ≡ true = h in cc
+leaf-array _ l e h = let f : false ≡ true = h in cc
 
 -- ---- RIGHT SIDES
 module _ (ss : Scopes) (known : AreKnownScopes ss) (is : List (Bound × Op)) (item : ItemTree Text) (found : IsSimpleItem (IsFound ss) item) (u : ValueType) (typed : item_type ss item ≡ Some u) where

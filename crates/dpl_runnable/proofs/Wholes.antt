@@ -3,7 +3,7 @@
 use Rattle.std.proofs.Common.{◌≡◌, ℕ, List, Some, None, refl, sym, ap, ◌∙◌, subst}
 use Rattle.std.proofs.lemmas.Option.{none-some}
 use Rattle.dpl_sets.specs.TextRanges.{TextRange}
-use Rattle.dpl_language.specs.Tree.{Kind, ExprTree, Number, TruthWord, Named, LocalesWord, LocaleCount, HereWord, Grouped, DomainLiteral, Prefixed, Reduced, Chain, Postfixed, ItemTree, One, RangeItem}
+use Rattle.dpl_language.specs.Tree.{Kind, ExprTree, Named, Grouped, DomainLiteral, Prefixed, Reduced, Chain, Postfixed, ItemTree, One, RangeItem}
 use Rattle.dpl_language.specs.Names.{Text}
 use Rattle.dpl_language.specs.Values.{array_domain}
 use Rattle.dpl_language.specs.Environment.{Environment, Limits}
@@ -51,12 +51,7 @@ module _ (limits : Limits) (s : Memory) (ss : Scopes) where
 
   mutual
     whole_in-array : (e : ExprTree Text) → IsSimple (IsFound ss) e → (k : Kind) (over : Over) → type_of ss e ≡ Some (ArrayType k over) → HasWhole e
-    whole_in-array (Number at n) f k over h = absurd cc
-    whole_in-array (TruthWord at b) f k over h = absurd cc
     whole_in-array (Named x) f k over h = name-whole x.name k over f (ap kind_by (name_verdict-gives x.at (lookup ss x.name) (ArrayType k over) h))
-    whole_in-array (LocalesWord at) f k over h = absurd cc
-    whole_in-array (LocaleCount at) f k over h = absurd cc
-    whole_in-array (HereWord at) f k over h = absurd cc
     whole_in-array (Grouped from item upto) f k over h = whole_item-array item f k over h
     whole_in-array (DomainLiteral from items upto) f k over h = elim (lone-no_array k over (ranges_verdict-has from (item_parts ss items) (ArrayType k over) h).0) [ ]
     whole_in-array (Prefixed at op e) f k over h = elim (kind-no_array k (prefix_kind op) over (prefix_verdict-kind at op (type_of ss e) (ArrayType k over) h)) [ ]
@@ -68,6 +63,7 @@ module _ (limits : Limits) (s : Memory) (ss : Scopes) where
     whole_in-array (Postfixed e posts) f k over h =
         let first = posts_type-gives limits env ss s (locales_or (bare_locales e) (type_of ss e)) posts (last_of e) (ArrayType k over) h in
         elim (lone-no_array k over (behind-has limits env ss s posts (base_of e) (last_of e) first.0 (ArrayType k over) (expr-formed (IsFound ss) (Postfixed e posts) f).0 first.2).0) [ ]
+    whole_in-array _ f k over h = absurd cc
 
     whole_item-array : (item : ItemTree Text) → IsSimpleItem (IsFound ss) item → (k : Kind) (over : Over) → item_type ss item ≡ Some (ArrayType k over) → (rs : List TextRange) × (whole_item limits env item s ≡ Some rs)
     whole_item-array (One e) f k over h = whole_in-array e f k over h

@@ -14,8 +14,8 @@ use Rattle.dpl_language.specs.Expressions.{value_of}
 use Rattle.dpl_language.specs.Statements.{exec}
 use Rattle.dpl_language.specs.Roots.{or_no_map, cyclic_or_none, root_by, start_of, derived_over, derived_root}
 use Rattle.dpl_lowered.specs.Shapes.{nowhere}
-use Rattle.dpl_words.specs.Words.{IntLeaf, TruthLeaf, RangeLeaf, LocaleLeaf}
-use Rattle.dpl_memory.specs.Memory.{VariableKind, PlainKind, DomainKind, TupleKind, CellKind, ArrayKind, Variable, Memory, variable, no_domain, array_at, value_in, root_in, with_root, in_memory}
+use Rattle.dpl_words.specs.Words.{IntLeaf}
+use Rattle.dpl_memory.specs.Memory.{VariableKind, PlainKind, DomainKind, Variable, Memory, variable, no_domain, array_at, value_in, root_in, with_root, in_memory}
 use Rattle.dpl_nodes.specs.declared.tree.DomainExpr.{DomainExpr}
 use Rattle.dpl_nodes.specs.declared.placing.Placing.{Placing}
 use Rattle.dpl_nodes.specs.declared.placing.Placing.TheVariants.{Derived, Mapped, BlockCreated, CyclicCreated}
@@ -36,13 +36,7 @@ use Rattle.dpl_simple.specs.Lineages.{slot_root, valued_root, empty_root}
 derived-kind : (k : VariableKind) (slot : ℕ) (rs : List TextRange) (s : Memory)
     → (if is_distributed (value_in k slot s) then root_in k slot s.roots else root_by NoMap rs) ≡ slot_root (slot_of k slot) rs s
 derived-kind (PlainKind IntLeaf) slot rs s = refl
-derived-kind (PlainKind TruthLeaf) slot rs s = refl
-derived-kind (PlainKind RangeLeaf) slot rs s = refl
-derived-kind (PlainKind LocaleLeaf) slot rs s = refl
-derived-kind DomainKind slot rs s = refl
-derived-kind TupleKind slot rs s = refl
-derived-kind (ArrayKind k) slot rs s = refl
-derived-kind (CellKind c) slot rs s = refl
+derived-kind _ slot rs s = refl
 
 -- a slot that holds a domain, without a root, and then with one by the domain
 abbrev pub bare : ℕ → Memory → List TextRange → Memory

@@ -9,7 +9,7 @@ use Rattle.dpl_range.specs.Invariant.{IsRange}
 use Rattle.dpl_map.proofs.ListLemmas.{Contains-nothing}
 use Rattle.dpl_layout.specs.Roots.{IsLeast, IsLeastOf}
 use Rattle.dpl_contents.specs.Domains.{AreWritten}
-use Rattle.dpl_language.specs.Tree.{Word, Size, First, Last, Low, High, LowBound, DomainOf, Id, Plainly, ExprTree, StartExpr}
+use Rattle.dpl_language.specs.Tree.{Word, Size, Plainly, ExprTree, StartExpr}
 use Rattle.dpl_language.specs.Values.{Value, Domain, Index, coordinates, Fault}
 use Rattle.dpl_language.specs.Ranges.{least_of, least_before, least_in, low_of, tuple_or_end, end_of, method_of}
 use Rattle.dpl_language.specs.Distributions.{CyclicFrom}
@@ -69,13 +69,7 @@ least_in-is rs d (Some t) e written none least = sym (least_in-some rs t written
 module _ (limits : Limits) (s : Memory) where
   low-method : (w : Word) (at : Place) (v : Value) → method_of (low_word w) at v ≡ low_of at v
   low-method Size at v = refl
-  low-method First at v = refl
-  low-method Last at v = refl
-  low-method Low at v = refl
-  low-method High at v = refl
-  low-method LowBound at v = refl
-  low-method DomainOf at v = refl
-  low-method Id at v = refl
+  low-method _ at v = refl
 
   ended : (at : Place) (o : Option Index) → value_or_none (with_ok (with_ok (tuple_or_end at o) (λ w. Ok w)) (λ v. Ok (coordinates v))) ≡ o
   ended at None = refl

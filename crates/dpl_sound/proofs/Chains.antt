@@ -4,16 +4,16 @@ use Rattle.std.proofs.Common.{◌≡◌, Bool, true, false, [], Option, Some, No
 use Rattle.std.specs.Prelude.{◌&&◌}
 use Rattle.std.specs.Result.{IfOk}
 use Rattle.dpl_syntax.specs.declared.place.Place.{Place}
-use Rattle.dpl_language.specs.Tree.{Kind, IntKind, BoolKind, Infix, Add, Subtract, Multiply, Divide, Remainder, Less, LessEqual}
-use Rattle.dpl_language.specs.Tree.{Greater, GreaterEqual, Equal, NotEqual, And, Or, ExprTree, Links, NoLinks, Link}
+use Rattle.dpl_language.specs.Tree.{Kind, IntKind, BoolKind, Infix}
+use Rattle.dpl_language.specs.Tree.{And, Or, ExprTree, Links, NoLinks, Link}
 use Rattle.dpl_language.specs.Values.{Value, Index}
 use Rattle.dpl_language.specs.Arithmetic.{infix_of, divides, tested_divisor, decides}
 use Rattle.dpl_language.specs.Names.{Text}
 use Rattle.dpl_language.specs.Outcome.{with_ok}
 use Rattle.dpl_language.specs.Environment.{Environment, Limits}
 use Rattle.dpl_language.specs.Expressions.{unless_decided, value_of, chained}
-use Rattle.dpl_rules.specs.Types.{Over, ValueType, Scalar, Range as RangeType, Domain as DomainType, Array as ArrayType, Promoted, Tuple as TupleType, is_bool, a_bool}
-use Rattle.dpl_rules.specs.Types.{Locale as LocaleType, AllLocales as AllLocalesType, Cell as CellType, Operand, operand_of, a_bool, is_bool}
+use Rattle.dpl_rules.specs.Types.{Over, ValueType, Scalar, Array as ArrayType, Promoted, is_bool, a_bool}
+use Rattle.dpl_rules.specs.Types.{Operand, operand_of, a_bool, is_bool}
 use Rattle.dpl_rules.specs.Verdicts.{type_by, has_if}
 use Rattle.dpl_rules.specs.Sights.{Scopes}
 use Rattle.dpl_rules.specs.Operators.{Takes, Ints, Alike, Bools, taken, between, taking, infix_verdict}
@@ -38,16 +38,11 @@ ints-no_bools : (at : Place) (result : Kind) (a : ValueType) (b : Option Operand
     → type_by (between at IntKind IntKind result (operand_of a) b) ≡ Some u → ⊥
 ints-no_bools at result (Scalar IntKind) b u p h = an_int_no_bool (p None)
 ints-no_bools at result (Scalar BoolKind) b u p h = bools_between_ints at result None b u h
-ints-no_bools at result (RangeType strided) b u p h = absurd cc
-ints-no_bools at result (DomainType rank strided) b u p h = absurd cc
 ints-no_bools at result (ArrayType IntKind over) b u p h = an_int_no_bool (p (Some []))
 ints-no_bools at result (ArrayType BoolKind over) b u p h = bools_between_ints at result (Some over) b u h
 ints-no_bools at result (Promoted IntKind over) b u p h = an_int_no_bool (p None)
 ints-no_bools at result (Promoted BoolKind over) b u p h = bools_between_ints at result (Some over) b u h
-ints-no_bools at result (TupleType rank) b u p h = absurd cc
-ints-no_bools at result LocaleType b u p h = absurd cc
-ints-no_bools at result AllLocalesType b u p h = absurd cc
-ints-no_bools at result (CellType k) b u p h = absurd cc
+ints-no_bools at result _ b u p h = absurd cc
 
 taking-bools : (takes : Takes) (at : Place) (a b u : ValueType) → IsOfKind BoolKind a → type_by (taking takes at a b) ≡ Some u → IsOfKind BoolKind u
 taking-bools (Ints result) at a b u p h = elim (ints-no_bools at result a (operand_of b) u p h) [ ]
@@ -61,37 +56,19 @@ infix_verdict-bools at op a (Some b) u p h = taking-bools (taken op) at a b u p 
 
 -- ---- what decides is a bool
 is_bool-type : (t : ValueType) → is_bool t ≡ true → t ≡ a_bool
-is_bool-type (Scalar IntKind) h = absurd cc
 is_bool-type (Scalar BoolKind) h = refl
-is_bool-type (RangeType strided) h = absurd cc
-is_bool-type (DomainType rank strided) h = absurd cc
-is_bool-type (ArrayType k over) h = absurd cc
-is_bool-type (Promoted k over) h = absurd cc
-is_bool-type (TupleType rank) h = absurd cc
-is_bool-type LocaleType h = absurd cc
-is_bool-type AllLocalesType h = absurd cc
-is_bool-type (CellType k) h = absurd cc
+is_bool-type _ h = absurd cc
 
 both_bools-left : (at : Place) (t b u : ValueType) → type_by (has_if (is_bool t && is_bool b) a_bool at) ≡ Some u → t ≡ a_bool
 both_bools-left at t b u h = is_bool-type t (both_so (is_bool t) (is_bool b) (has_if-gives (is_bool t && is_bool b) a_bool at u h).0).0
 
 decides-bool : (at : Place) (op : Infix) (t : ValueType) (b : Option ValueType) (u : ValueType) (v : Value) → decides op v ≡ true
     → type_by (infix_verdict at op (Some t) b) ≡ Some u → t ≡ a_bool
-decides-bool at Add t b u v d h = absurd cc
-decides-bool at Subtract t b u v d h = absurd cc
-decides-bool at Multiply t b u v d h = absurd cc
-decides-bool at Divide t b u v d h = absurd cc
-decides-bool at Remainder t b u v d h = absurd cc
-decides-bool at Less t b u v d h = absurd cc
-decides-bool at LessEqual t b u v d h = absurd cc
-decides-bool at Greater t b u v d h = absurd cc
-decides-bool at GreaterEqual t b u v d h = absurd cc
-decides-bool at Equal t b u v d h = absurd cc
-decides-bool at NotEqual t b u v d h = absurd cc
 decides-bool at And t None u v d h = absurd cc
 decides-bool at And t (Some b) u v d h = both_bools-left at t b u h
 decides-bool at Or t None u v d h = absurd cc
 decides-bool at Or t (Some b) u v d h = both_bools-left at t b u h
+decides-bool at _ t b u v d h = absurd cc
 
 module _ (scopes : Scopes) where
   -- a chain with a part that has no type has none

@@ -63,13 +63,9 @@ update-fits scopes s x op v h typed = change_in-fits scopes s.store x (update_in
 -- ints, and `reduce=` what the operator of the intent gives
 abbrev pub AssignsKind : Assign → Option Op → Kind → Type 0
 AssignsKind Set intent k = Unit {0}
-AssignsKind SetAdd intent k = IntKind ≡ k
-AssignsKind SetSubtract intent k = IntKind ≡ k
-AssignsKind SetMultiply intent k = IntKind ≡ k
-AssignsKind SetDivide intent k = IntKind ≡ k
-AssignsKind SetRemainder intent k = IntKind ≡ k
 AssignsKind SetReduce None k = Unit {0}
 AssignsKind SetReduce (Some op) k = op_kind op ≡ k
+AssignsKind _ intent k = IntKind ≡ k
 
 pub assigned-kind : (op : Assign) (intent : Option Op) (k : Kind) (old v : Value) → AssignsKind op intent k → OfKind k v → OfKind k (assigned op intent old v)
 assigned-kind Set intent k old v gives h = h

@@ -22,8 +22,8 @@ use Rattle.dpl_language.specs.Declarations.{Shell, array_with, gathered, filled,
 use Rattle.dpl_language.specs.Declarations.{array_of_item, array_of_init, array_of, declare_array, declare_typed, given_or, declare_by, declare}
 use Rattle.dpl_language.specs.Roots.{deal_domain, deal_array, deal_by, dealt}
 use Rattle.dpl_language.specs.Statements.{exec}
-use Rattle.dpl_rules.specs.Types.{Origin, Over, ValueType, Scalar, Range as RangeType, Domain as DomainType, Array as ArrayType}
-use Rattle.dpl_rules.specs.Types.{Promoted, Tuple as TupleType, Locale as LocaleType, AllLocales as AllLocalesType, Cell as CellType, domain_of}
+use Rattle.dpl_rules.specs.Types.{Origin, Over, ValueType, Scalar, Domain as DomainType, Array as ArrayType}
+use Rattle.dpl_rules.specs.Types.{Cell as CellType, domain_of}
 use Rattle.dpl_rules.specs.Verdicts.{Part, type_by, where_given}
 use Rattle.dpl_rules.specs.Sights.{Declared, Scopes, declared_here, origin_in, add}
 use Rattle.dpl_rules.specs.Operators.{ranges_verdict, domain_or, over_verdict}
@@ -55,20 +55,13 @@ one_domain from rank strided v h =
     (sized-has from rank strided (h.0 ++ []) (subst (AreRanked rank strided) (sym (append-nil h.0)) h.2))
 
 single-sizes : (from : Place) (p : Part) (t u : ValueType) → p.type ≡ Some t → type_by (domain_or (domain_of t) (ranges_verdict from (p ∷ []))) ≡ Some u → Sizes from (p ∷ []) u
-single-sizes from p (Scalar k) u e h = ranges_verdict-has from (p ∷ []) u h
-single-sizes from p (RangeType strided) u e h = ranges_verdict-has from (p ∷ []) u h
 single-sizes from p (DomainType rank strided) u e h = subst (Sizes from (p ∷ [])) (some-same (DomainType rank strided) u h) (λ i. refl, one)
   where
     one : (vs : List Value) → HaveTypes vs (p ∷ []) → IfOk (sized from (all_ranges vs)) (λ w. HasType w (DomainType rank strided))
     one [] hv = elim hv [ ]
     one (v ∷ []) hv = one_domain from rank strided v (subst (HasPartType v) e hv.0)
     one (v ∷ w ∷ vs) hv = elim hv.1 [ ]
-single-sizes from p (ArrayType k over) u e h = ranges_verdict-has from (p ∷ []) u h
-single-sizes from p (Promoted k over) u e h = ranges_verdict-has from (p ∷ []) u h
-single-sizes from p (TupleType rank) u e h = ranges_verdict-has from (p ∷ []) u h
-single-sizes from p LocaleType u e h = ranges_verdict-has from (p ∷ []) u h
-single-sizes from p AllLocalesType u e h = ranges_verdict-has from (p ∷ []) u h
-single-sizes from p (CellType k) u e h = ranges_verdict-has from (p ∷ []) u h
+single-sizes from p _ u e h = ranges_verdict-has from (p ∷ []) u h
 
 over_verdict-sizes : (from : Place) (ps : List Part) (u : ValueType) → type_by (over_verdict from ps) ≡ Some u → Sizes from ps u
 over_verdict-sizes from [] u h = ranges_verdict-has from [] u h
@@ -183,17 +176,9 @@ module _ (limits : Limits) (scopes : Scopes) where
       array-content : (o : Option ValueType) (v : Value) (vs : List Value) (name : Option Text) → HasPartType v o
           → ((over : Over) → over_domain scopes self a (domain_in o) ≡ Some (ArrayType a.kind over) → AllOfKind a.kind vs)
           → ContentFits (over_domain scopes self a (domain_in o)) (ArrayOf name a.kind (ranges_in v) vs)
-      array-content None v vs name hv elements = tt
-      array-content (Some (Scalar k)) v vs name hv elements = tt
-      array-content (Some (RangeType strided)) v vs name hv elements = tt
       array-content (Some (DomainType rank strided)) v vs name hv elements =
           ((ranges_in v, refl, subst (λ v. AreRanked rank strided (ranges_in v)) (sym hv.1) hv.2), elements _ refl)
-      array-content (Some (ArrayType k over)) v vs name hv elements = tt
-      array-content (Some (Promoted k over)) v vs name hv elements = tt
-      array-content (Some (TupleType rank)) v vs name hv elements = tt
-      array-content (Some LocaleType) v vs name hv elements = tt
-      array-content (Some AllLocalesType) v vs name hv elements = tt
-      array-content (Some (CellType k)) v vs name hv elements = tt
+      array-content _ v vs name hv elements = tt
 
       abbrev shell : Value → Shell Text
       shell v = record { over = declared_over a.over; kind = a.kind; ranges = ranges_in v }
@@ -320,14 +305,7 @@ module _ (limits : Limits) (scopes : Scopes) where
 
       array-store : (a : ArrayTypeTree Text) (v : Value) → (deal_array limits by_name a d.name.name v s t).store ≡ t.store
       array-store a (Int n) = refl
-      array-store a (Truth b) = refl
-      array-store a (Range r) = refl
-      array-store a (Domain rs) = refl
-      array-store a (Array k rs) = refl
-      array-store a (Cell k) = refl
-      array-store a (Locale n) = refl
-      array-store a AllLocales = refl
-      array-store a (Tuple is) = refl
+      array-store a _ = refl
 
       dealt-store : (type : Option (TypeTree Text)) (v : Value) → (deal_by limits by_name type d.initial d.name.name v s t).store ≡ t.store
       dealt-store None v = domain-store None v

@@ -10,8 +10,8 @@ use Rattle.dpl_language.specs.Tree.{Kind, IntKind, BoolKind, MappedTree, InitTre
 use Rattle.dpl_language.specs.Values.{Value, Domain, Index, default}
 use Rattle.dpl_language.specs.Ranges.{unstrided, empty_domain}
 use Rattle.dpl_language.specs.Names.{Text}
-use Rattle.dpl_rules.specs.Types.{Over, ValueType, Scalar, Range as RangeType, Domain as DomainType, Array as ArrayType, Promoted}
-use Rattle.dpl_rules.specs.Types.{Tuple as TupleType, Locale as LocaleType, AllLocales as AllLocalesType, Cell as CellType, same_kind, agrees}
+use Rattle.dpl_rules.specs.Types.{Over, ValueType, Scalar, Domain as DomainType, Array as ArrayType, Promoted}
+use Rattle.dpl_rules.specs.Types.{same_kind, agrees}
 use Rattle.dpl_rules.specs.Verdicts.{owed, owed_type, breach}
 use Rattle.dpl_rules.specs.Places.{first_of_item}
 use Rattle.dpl_rules.specs.Sights.{Scopes}
@@ -54,72 +54,42 @@ kind-type k l v h p = subst (λ j. OfKind j v) (same_kind-so k l h) p
 
 pub scalar-takes : (k : Kind) (t : ValueType) (v : Value) → Takes (Scalar k) t → HasType v (type_at t None) → OfKind k v
 scalar-takes k (Scalar l) v h hv = kind-type k l v (owed_so (same_kind k l) h.0 h.1) hv
-scalar-takes k (RangeType strided) v h hv = absurd cc
-scalar-takes k (DomainType rank strided) v h hv = absurd cc
-scalar-takes k (ArrayType l over) v h hv = absurd cc
-scalar-takes k (Promoted l over) v h hv = absurd cc
-scalar-takes k (TupleType rank) v h hv = absurd cc
-scalar-takes k LocaleType v h hv = absurd cc
-scalar-takes k AllLocalesType v h hv = absurd cc
-scalar-takes k (CellType l) v h hv = absurd cc
+scalar-takes k _ v h hv = absurd cc
 
 domain-same : (rank r : ℕ) (strided : Bool) (v : Value) → (r == rank) ≡ true → not strided ≡ true → HasType v (DomainType r strided) → HasType v (DomainType rank false)
 domain-same rank r true v e h hv = absurd cc
 domain-same rank r false v e h hv = subst (λ n. HasType v (DomainType n false)) ((Decides-eqb r rank).0 e) hv
 
 pub domain-takes : (rank : ℕ) (t : ValueType) (v : Value) → Takes (DomainType rank false) t → HasType v (type_at t None) → HasType v (DomainType rank false)
-domain-takes rank (Scalar l) v h hv = absurd cc
-domain-takes rank (RangeType strided) v h hv = absurd cc
 domain-takes rank (DomainType r strided) v h hv =
     let both = both_so (r == rank) (not strided) (owed_so ((r == rank) && not strided) h.0 h.1) in
     domain-same rank r strided v both.0 both.1 hv
-domain-takes rank (ArrayType l over) v h hv = absurd cc
-domain-takes rank (Promoted l over) v h hv = absurd cc
-domain-takes rank (TupleType r) v h hv = absurd cc
-domain-takes rank LocaleType v h hv = absurd cc
-domain-takes rank AllLocalesType v h hv = absurd cc
-domain-takes rank (CellType l) v h hv = absurd cc
+domain-takes rank _ v h hv = absurd cc
 
 -- what each element of an array can be given once
 pub array-takes : (k : Kind) (over : Over) (t : ValueType) (v : Value) → Takes (ArrayType k over) t → ((l : Kind) (o : Over) → t ≡ ArrayType l o → ⊥) → HasType v (type_at t None) → OfKind k v
 array-takes k over (Scalar l) v h whole hv = kind-type k l v (both_so (same_kind k l) true (owed_so (same_kind k l && true) h.0 h.1)).0 hv
-array-takes k over (RangeType strided) v h whole hv = absurd cc
-array-takes k over (DomainType r strided) v h whole hv = absurd cc
 array-takes k over (ArrayType l o) v h whole hv = elim (whole l o refl) [ ]
 array-takes k over (Promoted l o) v h whole hv =
     kind-type k l v (both_so (same_kind k l) (agrees over (Some o)) (owed_so (same_kind k l && agrees over (Some o)) h.0 h.1)).0 hv
-array-takes k over (TupleType r) v h whole hv = absurd cc
-array-takes k over LocaleType v h whole hv = absurd cc
-array-takes k over AllLocalesType v h whole hv = absurd cc
-array-takes k over (CellType l) v h whole hv = absurd cc
+array-takes k over _ v h whole hv = absurd cc
 
 -- what each element is given at its index
 pub array-takes_at : (k : Kind) (over : Over) (t : ValueType) (i : Index) (v : Value) → Takes (ArrayType k over) t → HasType v (type_at t (Some i)) → OfKind k v
 array-takes_at k over (Scalar l) i v h hv = kind-type k l v (both_so (same_kind k l) true (owed_so (same_kind k l && true) h.0 h.1)).0 hv
-array-takes_at k over (RangeType strided) i v h hv = absurd cc
-array-takes_at k over (DomainType r strided) i v h hv = absurd cc
 array-takes_at k over (ArrayType l o) i v h hv =
     kind-type k l v (both_so (same_kind k l) (agrees over (Some o)) (owed_so (same_kind k l && agrees over (Some o)) h.0 h.1)).0 hv
 array-takes_at k over (Promoted l o) i v h hv =
     kind-type k l v (both_so (same_kind k l) (agrees over (Some o)) (owed_so (same_kind k l && agrees over (Some o)) h.0 h.1)).0 hv
-array-takes_at k over (TupleType r) i v h hv = absurd cc
-array-takes_at k over LocaleType i v h hv = absurd cc
-array-takes_at k over AllLocalesType i v h hv = absurd cc
-array-takes_at k over (CellType l) i v h hv = absurd cc
+array-takes_at k over _ i v h hv = absurd cc
 
 -- what a name without a type is given
 untyped-takes : (mapped : Option (MappedTree Text)) (at : Place) (t : ValueType) (v : Value) → owed_type (is_untyped mapped) at (Some t) ≡ [] → HasType v (type_at t None) → HasType v t
-untyped-takes mapped at (Scalar k) v h hv = hv
-untyped-takes mapped at (RangeType strided) v h hv = hv
-untyped-takes mapped at (DomainType rank strided) v h hv = hv
 untyped-takes None at (ArrayType k over) v h hv = absurd cc
 untyped-takes (Some m) at (ArrayType k over) v h hv = absurd cc
 untyped-takes None at (Promoted k over) v h hv = absurd cc
 untyped-takes (Some m) at (Promoted k over) v h hv = absurd cc
-untyped-takes mapped at (TupleType rank) v h hv = hv
-untyped-takes mapped at LocaleType v h hv = hv
-untyped-takes mapped at AllLocalesType v h hv = hv
-untyped-takes mapped at (CellType k) v h hv = hv
+untyped-takes mapped at _ v h hv = hv
 
 -- ---- initial values without a breach
 module _ (scopes : Scopes) where

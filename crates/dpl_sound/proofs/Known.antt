@@ -1,18 +1,18 @@
 -- Where each name in sight has a type, what breaks no rule has a type: then a rule that is looked at gives a type or is
 -- broken, and each is looked at.
 use Rattle.std.proofs.Common.{◌≡◌, ℕ, Bool, true, false, List, [], ◌∷◌, ◌++◌, length, Option, Some, None, refl, sym, subst}
-use Rattle.std.specs.Prelude.{◌&&◌, ◌||◌, not, nat_lt, is_some, if◌then◌else◌}
+use Rattle.std.specs.Prelude.{◌&&◌, not, nat_lt, is_some, if◌then◌else◌}
 use Rattle.std.specs.Option.{option_or}
 use Rattle.dpl_syntax.specs.declared.place.Place.{Place}
 use Rattle.dpl_syntax.specs.declared.refusal.Breach.{Breach}
 use Rattle.dpl_syntax.specs.declared.refusal.Code.TheVariants.{WrongType, CellMisused}
-use Rattle.dpl_language.specs.Tree.{Kind, IntKind, Infix, Word, Size, First, Last, Low, High, LowBound, DomainOf, Id}
+use Rattle.dpl_language.specs.Tree.{Kind, IntKind, Infix, Word, LowBound, DomainOf}
 use Rattle.dpl_language.specs.Tree.{ExprTree, Number, TruthWord, Named, LocalesWord, LocaleCount, HereWord, Grouped, DomainLiteral, Prefixed, Reduced, Chain, Postfixed}
 use Rattle.dpl_language.specs.Tree.{ItemTree, One, RangeItem, Stride, NoStride, By, Links, NoLinks, Link, Posts, NoPosts, Post, PostTree, Brackets, Rounds, Dotted}
 use Rattle.dpl_language.specs.Tree.{MethodTree, Plainly, Dim, Contains, Expand, CellRead, Items, FirstItem, MoreItems, NoItems, NextItem, Exprs, FirstExpr, MoreExprs, NoExprs, NextExpr}
 use Rattle.dpl_language.specs.Names.{Text}
-use Rattle.dpl_rules.specs.Types.{Over, ValueType, Scalar, Range as RangeType, Domain as DomainType, Array as ArrayType, Promoted, Tuple as TupleType, Locale as LocaleType, AllLocales as AllLocalesType, Cell as CellType}
-use Rattle.dpl_rules.specs.Types.{Operand, operand_of, an_int, a_bool, same_kind, is_cell, is_bool, is_range, is_domain, is_locale, is_int, array_of, domain_of, op_kind}
+use Rattle.dpl_rules.specs.Types.{Over, ValueType, Scalar, Range as RangeType, Domain as DomainType, Array as ArrayType, Locale as LocaleType, AllLocales as AllLocalesType}
+use Rattle.dpl_rules.specs.Types.{Operand, operand_of, an_int, a_bool, same_kind, is_cell, is_bool, is_int, array_of, domain_of, op_kind}
 use Rattle.dpl_rules.specs.Verdicts.{Part, part, Verdict, Has, Breaks, type_by, broken_by, breach, owed, wanted, misranked, has_if, judged, with_type, all_known}
 use Rattle.dpl_rules.specs.Places.{first_of, last_of, last_of_post}
 use Rattle.dpl_rules.specs.Sights.{Declared, Scopes, lookup}
@@ -84,29 +84,20 @@ array_verdict-told last from ps None k = tt
 array_verdict-told last from ps (Some a) k = judged-told (all_known ps) (index_breaches last a.1.rank ps) (Scalar a.0) k
 
 square_verdict-told : (last from : Place) (ps : List Part) (t : ValueType) → all_known ps ≡ true → IsTold (square_verdict last from ps t)
-square_verdict-told last from ps (Scalar k) known = tt
 square_verdict-told last from ps (RangeType strided) known = judged-told (all_known ps) (slice_breaches last 1 ps) (RangeType strided) known
 square_verdict-told last from ps (DomainType rank strided) known = judged-told (all_known ps) (slice_breaches last rank ps) (DomainType rank strided) known
 square_verdict-told last from ps (ArrayType k over) known = judged-told (all_known ps) (index_breaches last over.rank ps) (Scalar k) known
-square_verdict-told last from ps (Promoted k over) known = tt
-square_verdict-told last from ps (TupleType rank) known = tt
-square_verdict-told last from ps LocaleType known = tt
 square_verdict-told last from ps AllLocalesType known = judged-told (all_known ps) (locale_breaches last ps) LocaleType known
-square_verdict-told last from ps (CellType k) known = tt
+square_verdict-told last from ps _ known = tt
 
 domain_over-told : (at : Place) (o : Option (Kind × Over)) → IsTold (domain_over at o)
 domain_over-told at None = tt
 domain_over-told at (Some a) = tt
 
 word_verdict-told : (at : Place) (w : Word) (t : ValueType) → IsTold (word_verdict at w t)
-word_verdict-told at Size t = has_if-told (is_range t || is_domain t) an_int at
-word_verdict-told at First t = has_if-told (is_range t) an_int at
-word_verdict-told at Last t = has_if-told (is_range t) an_int at
-word_verdict-told at Low t = has_if-told (is_range t) an_int at
-word_verdict-told at High t = has_if-told (is_range t) an_int at
 word_verdict-told at LowBound t = tt
 word_verdict-told at DomainOf t = domain_over-told at (array_of t)
-word_verdict-told at Id t = has_if-told (is_locale t) an_int at
+word_verdict-told at _ t = has_if-told _ an_int at
 
 dim_if-told : (b : Bool) (rank_at : Place) (t : ValueType) → IsTold (if b then Has t else misranked rank_at)
 dim_if-told true rank_at t = tt
@@ -163,18 +154,8 @@ module _ (scopes : Scopes) (known : AreKnown scopes) where
   -- the bare word `Locales`, which has no type and is told, stands before brackets
   base-typed : (e : ExprTree Text) → (expr_breaches scopes e ≡ [] → IsTyped (type_of scopes e)) → none_where (bare_locales e) (expr_breaches scopes e) ≡ []
       → IsTyped (locales_or (bare_locales e) (type_of scopes e))
-  base-typed (Number at n) own h = own h
-  base-typed (TruthWord at b) own h = own h
-  base-typed (Named x) own h = own h
   base-typed (LocalesWord at) own h = (AllLocalesType, refl)
-  base-typed (LocaleCount at) own h = own h
-  base-typed (HereWord at) own h = own h
-  base-typed (Grouped from item upto) own h = own h
-  base-typed (DomainLiteral from items upto) own h = own h
-  base-typed (Prefixed at op e) own h = own h
-  base-typed (Reduced at op word e) own h = own h
-  base-typed (Chain e rest) own h = own h
-  base-typed (Postfixed e posts) own h = own h
+  base-typed _ own h = own h
 
   mutual
     pub type_of-known : (e : ExprTree Text) → expr_breaches scopes e ≡ [] → IsTyped (type_of scopes e)

@@ -33,15 +33,8 @@ name_verdict-gives at (Some d) u h =
 -- ---- values
 -- what is of a type is of that type where it is evaluated once
 pub has-once : (t : ValueType) (v : Value) → HasType v t → HasType v (type_at t None)
-has-once (Scalar k) v h = h
-has-once (RangeType strided) v h = h
-has-once (DomainType rank strided) v h = h
-has-once (ArrayType k over) v h = h
 has-once (Promoted k over) v h = elim h [ ]
-has-once (TupleType rank) v h = h
-has-once LocaleType v h = h
-has-once AllLocalesType v h = h
-has-once (CellType k) v h = h
+has-once _ v h = h
 
 module _ {S : Type 0} (limits : Limits) (env : Environment Text S) (s : S) where
   -- an array of that name has elements of its kind

@@ -6,8 +6,8 @@ use Rattle.std.specs.Option.{option_or}
 use Rattle.std.specs.Result.{IfOk}
 use Rattle.dpl_syntax.specs.declared.place.Place.{Place}
 use Rattle.dpl_sets.specs.TextRanges.{TextRange}
-use Rattle.dpl_language.specs.Tree.{Kind, IntKind, BoolKind, Prefix, Minus, Not, Infix, Add, Subtract, Multiply, Divide, Remainder, Less, LessEqual, Greater}
-use Rattle.dpl_language.specs.Tree.{GreaterEqual, Equal, NotEqual, And, Or, Op, Sum, Product, AllOf, AnyOf, BitAnd, BitOr, BitXor, Least, Greatest}
+use Rattle.dpl_language.specs.Tree.{Kind, IntKind, BoolKind, Prefix, Minus, Not, Infix, Add}
+use Rattle.dpl_language.specs.Tree.{Op, Sum}
 use Rattle.dpl_language.specs.Values.{Value, Index, Fault, fault, Budget}
 use Rattle.dpl_language.specs.Arithmetic.{prefix_of, infix_of, combined, unit_of}
 use Rattle.dpl_language.specs.Ranges.{indices_in, size_in}
@@ -34,40 +34,15 @@ given Bools = BoolKind
 
 pub infix_of-kind : (op : Infix) (v w : Value) → OfKind (given (taken op)) (infix_of op v w)
 infix_of-kind Add v w = (_, refl)
-infix_of-kind Subtract v w = (_, refl)
-infix_of-kind Multiply v w = (_, refl)
-infix_of-kind Divide v w = (_, refl)
-infix_of-kind Remainder v w = (_, refl)
-infix_of-kind Less v w = (_, refl)
-infix_of-kind LessEqual v w = (_, refl)
-infix_of-kind Greater v w = (_, refl)
-infix_of-kind GreaterEqual v w = (_, refl)
-infix_of-kind Equal v w = (_, refl)
-infix_of-kind NotEqual v w = (_, refl)
-infix_of-kind And v w = (_, refl)
-infix_of-kind Or v w = (_, refl)
+infix_of-kind _ v w = (_, refl)
 
 unit_of-kind : (op : Op) → OfKind (op_kind op) (unit_of op)
 unit_of-kind Sum = (_, refl)
-unit_of-kind Product = (_, refl)
-unit_of-kind AllOf = (_, refl)
-unit_of-kind AnyOf = (_, refl)
-unit_of-kind BitAnd = (_, refl)
-unit_of-kind BitOr = (_, refl)
-unit_of-kind BitXor = (_, refl)
-unit_of-kind Least = (_, refl)
-unit_of-kind Greatest = (_, refl)
+unit_of-kind _ = (_, refl)
 
 pub combined-kind : (op : Op) (v w : Value) → OfKind (op_kind op) (combined op v w)
 combined-kind Sum v w = (_, refl)
-combined-kind Product v w = (_, refl)
-combined-kind AllOf v w = (_, refl)
-combined-kind AnyOf v w = (_, refl)
-combined-kind BitAnd v w = (_, refl)
-combined-kind BitOr v w = (_, refl)
-combined-kind BitXor v w = (_, refl)
-combined-kind Least v w = (_, refl)
-combined-kind Greatest v w = (_, refl)
+combined-kind _ v w = (_, refl)
 
 -- ---- reductions: by induction over the indices that are left
 folded-kind : (op : Op) (value : Index → Result Value Fault) (ts : List Index) (so_far : Value) → OfKind (op_kind op) so_far

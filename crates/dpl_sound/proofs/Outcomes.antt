@@ -12,8 +12,8 @@ use Rattle.dpl_language.specs.Environment.{Environment, Limits}
 use Rattle.dpl_language.specs.Phrases.{ReadTree}
 use Rattle.dpl_language.specs.Expressions.{value_of, item_of, items_of, values_of}
 use Rattle.dpl_language.specs.Assignments.{reply_value}
-use Rattle.dpl_rules.specs.Types.{Over, ValueType, Scalar, Range as RangeType, Domain as DomainType, Array as ArrayType, Promoted, Tuple as TupleType}
-use Rattle.dpl_rules.specs.Types.{Locale as LocaleType, AllLocales as AllLocalesType, Cell as CellType, an_int, a_bool, Operand, operand_of, cell_of}
+use Rattle.dpl_rules.specs.Types.{Over, ValueType, Scalar, Range as RangeType, Domain as DomainType, Array as ArrayType, Promoted}
+use Rattle.dpl_rules.specs.Types.{Locale as LocaleType, Cell as CellType, an_int, a_bool, Operand, operand_of, cell_of}
 use Rattle.dpl_rules.specs.Sights.{Scopes, lookup, type_declared}
 use Rattle.dpl_rules.specs.Expressions.{type_of, item_type, item_parts, expr_parts, cell_declared, kind_read}
 use Rattle.dpl_sound.specs.Formed.{ExprFormed, ItemFormed, ItemsFormed, ExprsFormed}
@@ -39,14 +39,9 @@ form_or_fault form P (Err f) p = inr (f, refl)
 -- ---- which types are the same at each index
 pub type_at-lone : (t : ValueType) → operand_of t ≡ None → IsLone t
 type_at-lone (Scalar k) h = absurd cc
-type_at-lone (RangeType strided) h = λ i. refl
-type_at-lone (DomainType rank strided) h = λ i. refl
 type_at-lone (ArrayType k over) h = absurd cc
 type_at-lone (Promoted k over) h = absurd cc
-type_at-lone (TupleType rank) h = λ i. refl
-type_at-lone LocaleType h = λ i. refl
-type_at-lone AllLocalesType h = λ i. refl
-type_at-lone (CellType k) h = λ i. refl
+type_at-lone _ h = λ i. refl
 
 abbrev operand : Kind → Option Over → Operand
 operand k over = record { kind = k; over = over }
@@ -56,25 +51,13 @@ operand-kind k over o h = ap (λ (q : Operand). Scalar q.kind) (some-same (opera
 
 pub type_at-operand : (t : ValueType) (o : Operand) (i : Index) → operand_of t ≡ Some o → type_at t (Some i) ≡ Scalar o.kind
 type_at-operand (Scalar k) o i h = operand-kind k None o h
-type_at-operand (RangeType strided) o i h = absurd cc
-type_at-operand (DomainType rank strided) o i h = absurd cc
 type_at-operand (ArrayType k over) o i h = operand-kind k (Some over) o h
 type_at-operand (Promoted k over) o i h = operand-kind k (Some over) o h
-type_at-operand (TupleType rank) o i h = absurd cc
-type_at-operand LocaleType o i h = absurd cc
-type_at-operand AllLocalesType o i h = absurd cc
-type_at-operand (CellType k) o i h = absurd cc
+type_at-operand _ o i h = absurd cc
 
 pub type_at-once : (t : ValueType) → ((k : Kind) (over : Over) → t ≡ Promoted k over → ⊥) → type_at t None ≡ t
-type_at-once (Scalar k) p = refl
-type_at-once (RangeType strided) p = refl
-type_at-once (DomainType rank strided) p = refl
-type_at-once (ArrayType k over) p = refl
 type_at-once (Promoted k over) p = elim (p k over refl) [ ]
-type_at-once (TupleType rank) p = refl
-type_at-once LocaleType p = refl
-type_at-once AllLocalesType p = refl
-type_at-once (CellType k) p = refl
+type_at-once _ p = refl
 
 value_kept-kind : (k : Kind) (z : ℤ) → OfKind k (value_kept k z)
 value_kept-kind IntKind z = (z, refl)
@@ -158,16 +141,9 @@ module _ {S : Type 0} (limits : Limits) (env : Environment Text S) (scopes : Sco
 
   -- ---- a cell read: a reply that hands over a number gives a value of the kind that the cell's name is declared with
   read-kind : (v : Value) (t : ValueType) (k : Kind) (z : ℤ) → HasType v t → cell_of t ≡ Some k → OfKind k (reply_value (cell_kind v) (Given z))
-  read-kind v (Scalar l) k z hv h = absurd cc
-  read-kind v (RangeType strided) k z hv h = absurd cc
-  read-kind v (DomainType rank strided) k z hv h = absurd cc
-  read-kind v (ArrayType l over) k z hv h = absurd cc
-  read-kind v (Promoted l over) k z hv h = absurd cc
-  read-kind v (TupleType rank) k z hv h = absurd cc
-  read-kind v LocaleType k z hv h = absurd cc
-  read-kind v AllLocalesType k z hv h = absurd cc
   read-kind v (CellType l) k z hv h =
       subst (λ v. OfKind k (reply_value (cell_kind v) (Given z))) (sym hv) (subst (λ j. OfKind j (value_kept l z)) (some-same l k h) (value_kept-kind l z))
+  read-kind v _ k z hv h = absurd cc
 
   declared-kind : (x : Text) (o : Option ValueType) (k : Kind) (z : ℤ) → ((t : ValueType) → o ≡ Some t → HasType (env.get x s) t) → cell_declared o ≡ Some k
       → OfKind k (reply_value (cell_kind (env.get x s)) (Given z))

@@ -6,7 +6,7 @@ use Rattle.std.specs.Result.{IfOk}
 use Rattle.dpl_syntax.specs.declared.place.Place.{Place}
 use Rattle.dpl_syntax.specs.declared.refusal.Code.TheVariants.{WrongType}
 use Rattle.dpl_sets.specs.TextDomains.{text_expanded}
-use Rattle.dpl_language.specs.Tree.{Kind, IntKind, Word, Size, First, Last, Low, High, LowBound, DomainOf, Id, Posts}
+use Rattle.dpl_language.specs.Tree.{Kind, IntKind, Word, First, Last, Low, High, LowBound, DomainOf, Posts}
 use Rattle.dpl_language.specs.Tree.{NoPosts, Post, PostTree, Brackets, Rounds, Dotted, MethodTree, Plainly, Dim, Contains, Expand, CellRead}
 use Rattle.dpl_language.specs.Values.{Value, Range, Domain, Locale, Index, Fault, fault, PastLimit, NoLocale, number, ranges_in, all_ranges, index_of}
 use Rattle.dpl_language.specs.Ranges.{all_sliced, range_sliced, too_many, bounds_past_limit, expanded, dimension, members_of_first, first_of, last_of, least_of, greatest_of, end_of, low_of, method_of, leading}
@@ -15,8 +15,8 @@ use Rattle.dpl_language.specs.Outcome.{with_ok}
 use Rattle.dpl_language.specs.Environment.{Environment, Limits}
 use Rattle.dpl_language.specs.Phrases.{Base, BaseName, BaseLocales, OtherBase}
 use Rattle.dpl_language.specs.Expressions.{locale_of, element_of, bracketed, value_of, items_of, values_of, post_of, answer_of, behind}
-use Rattle.dpl_rules.specs.Types.{Over, ValueType, Scalar, Range as RangeType, Domain as DomainType, Array as ArrayType, Promoted, Tuple as TupleType, Locale as LocaleType, AllLocales as AllLocalesType}
-use Rattle.dpl_rules.specs.Types.{Cell as CellType, an_int, a_bool, is_int, is_range, is_domain, is_locale, array_of, domain_of}
+use Rattle.dpl_rules.specs.Types.{Over, ValueType, Scalar, Range as RangeType, Domain as DomainType, Array as ArrayType, Locale as LocaleType, AllLocales as AllLocalesType}
+use Rattle.dpl_rules.specs.Types.{an_int, a_bool, is_int, is_range, array_of, domain_of}
 use Rattle.dpl_rules.specs.Verdicts.{Part, part, type_by, Has, misranked, all_known, owed, wanted}
 use Rattle.dpl_rules.specs.Sights.{Scopes}
 use Rattle.dpl_rules.specs.Places.{first_of as first_of_expr, last_of_post}
@@ -63,41 +63,26 @@ ends-give at pick t u e =
     ints-give t u (λ v. end_of at pick (members_of_first (ranges_in v))) (λ v. end_of-kind at pick (members_of_first (ranges_in v))) e
 
 domain_over-has : (at : Place) (t u : ValueType) → type_by (domain_over at (array_of t)) ≡ Some u → Gives t u (λ v. Ok (Domain (ranges_in v)))
-domain_over-has at (Scalar k) u h = absurd cc
-domain_over-has at (RangeType strided) u h = absurd cc
-domain_over-has at (DomainType rank strided) u h = absurd cc
 domain_over-has at (ArrayType k over) u h =
     subst (λ u. Gives (ArrayType k over) u (λ v. Ok (Domain (ranges_in v)))) (some-same (DomainType over.rank over.strided) u h)
     (λ i. refl, λ v hv. subst (λ v. HasType (Domain (ranges_in v)) (DomainType over.rank over.strided)) (sym hv.1) (hv.0, refl, hv.2))
-domain_over-has at (Promoted k over) u h = absurd cc
-domain_over-has at (TupleType rank) u h = absurd cc
-domain_over-has at LocaleType u h = absurd cc
-domain_over-has at AllLocalesType u h = absurd cc
-domain_over-has at (CellType k) u h = absurd cc
+domain_over-has at _ u h = absurd cc
 
 -- the least member of a range is that of its one range
 low-gives : (at : Place) (t u : ValueType) → is_range t ≡ true → an_int ≡ u → Gives t u (low_of at)
-low-gives at (Scalar k) u b e = absurd cc
 low-gives at (RangeType strided) u b e =
     subst (λ u. Gives (RangeType strided) u (low_of at)) e
     (λ i. refl, λ v hv. subst (λ v. IfOk (low_of at v) (λ w. HasType w an_int)) (sym hv.1) (end_of-kind at least_of (members_of_first (hv.0 ∷ []))))
-low-gives at (DomainType rank strided) u b e = absurd cc
-low-gives at (ArrayType k over) u b e = absurd cc
-low-gives at (Promoted k over) u b e = absurd cc
-low-gives at (TupleType rank) u b e = absurd cc
-low-gives at LocaleType u b e = absurd cc
-low-gives at AllLocalesType u b e = absurd cc
-low-gives at (CellType k) u b e = absurd cc
+low-gives at _ u b e = absurd cc
 
 method_of-has : (at : Place) (w : Word) (t u : ValueType) → type_by (word_verdict at w t) ≡ Some u → Gives t u (method_of w at)
-method_of-has at Size t u h = ints-give t u (method_of Size at) (λ v. (_, refl)) (has_if-gives (is_range t || is_domain t) an_int at u h).1
 method_of-has at First t u h = ends-give at first_of t u (has_if-gives (is_range t) an_int at u h).1
 method_of-has at Last t u h = ends-give at last_of t u (has_if-gives (is_range t) an_int at u h).1
 method_of-has at Low t u h = low-gives at t u (has_if-gives (is_range t) an_int at u h).0 (has_if-gives (is_range t) an_int at u h).1
 method_of-has at High t u h = ends-give at greatest_of t u (has_if-gives (is_range t) an_int at u h).1
 method_of-has at LowBound t u h = absurd cc
 method_of-has at DomainOf t u h = domain_over-has at t u h
-method_of-has at Id t u h = ints-give t u (method_of Id at) (λ v. (_, refl)) (has_if-gives (is_locale t) an_int at u h).1
+method_of-has at w t u h = ints-give t u (method_of w at) (λ v. (_, refl)) (has_if-gives _ an_int at u h).1
 
 dim-type : (b : Bool) (rank_at : Place) (strided : Bool) (u : ValueType) → type_by (if b then Has (RangeType strided) else misranked rank_at) ≡ Some u → RangeType strided ≡ u
 dim-type true rank_at strided u h = some-same (RangeType strided) u h
@@ -105,20 +90,13 @@ dim-type false rank_at strided u h = absurd cc
 
 dim-has : (at rank_at : Place) (d : ℕ) (t u : ValueType) → type_by (dim_verdict at rank_at d (domain_of t)) ≡ Some u
     → Gives t u (λ v. Ok (Range (dimension d (ranges_in v))))
-dim-has at rank_at d (Scalar k) u h = absurd cc
-dim-has at rank_at d (RangeType strided) u h = absurd cc
 dim-has at rank_at d (DomainType rank strided) u h =
     subst (λ u. Gives (DomainType rank strided) u (λ v. Ok (Range (dimension d (ranges_in v))))) (dim-type (nat_lt d rank) rank_at strided u h) (
       λ i. refl,
       λ v hv. subst (λ v. HasType (Range (dimension d (ranges_in v))) (RangeType strided)) (sym hv.1)
           (dimension d hv.0, refl, dimension-strides strided d hv.0 hv.2.1),
     )
-dim-has at rank_at d (ArrayType k over) u h = absurd cc
-dim-has at rank_at d (Promoted k over) u h = absurd cc
-dim-has at rank_at d (TupleType rank) u h = absurd cc
-dim-has at rank_at d LocaleType u h = absurd cc
-dim-has at rank_at d AllLocalesType u h = absurd cc
-dim-has at rank_at d (CellType k) u h = absurd cc
+dim-has at rank_at d _ u h = absurd cc
 
 contains_verdict-type : (at : Place) (ps : List Part) (o : Option ℕ) (u : ValueType) → type_by (contains_verdict at ps o) ≡ Some u → a_bool ≡ u
 contains_verdict-type at ps None u h = absurd cc
@@ -152,17 +130,10 @@ module _ {S : Type 0} (limits : Limits) (env : Environment Text S) (scopes : Sco
   -- ---- indices and slices
   array_verdict-has : (last from : Place) (ps : List Part) (b : Base Text) (t u : ValueType) → type_by (array_verdict last from ps (array_of t)) ≡ Some u
       → IsLone u × (BaseGives b t → (i : Index) → IfOk (element_of limits env b i s) (λ w. HasType w u))
-  array_verdict-has last from ps b (Scalar k) u h = absurd cc
-  array_verdict-has last from ps b (RangeType strided) u h = absurd cc
-  array_verdict-has last from ps b (DomainType rank strided) u h = absurd cc
   array_verdict-has last from ps b (ArrayType k over) u h =
       subst (λ u. IsLone u × (BaseGives b (ArrayType k over) → (i : Index) → IfOk (element_of limits env b i s) (λ w. HasType w u)))
       (judged-gives (all_known ps) (index_breaches last over.rank ps) (Scalar k) u h).2 (λ i. refl, λ base i. base k over refl i)
-  array_verdict-has last from ps b (Promoted k over) u h = absurd cc
-  array_verdict-has last from ps b (TupleType rank) u h = absurd cc
-  array_verdict-has last from ps b LocaleType u h = absurd cc
-  array_verdict-has last from ps b AllLocalesType u h = absurd cc
-  array_verdict-has last from ps b (CellType k) u h = absurd cc
+  array_verdict-has last from ps b _ u h = absurd cc
 
   -- what square brackets give of a value
   abbrev Square : Base Text → List Value → ValueType → Value → Type 0
@@ -172,7 +143,6 @@ module _ {S : Type 0} (limits : Limits) (env : Environment Text S) (scopes : Sco
   Squares b t u = IsLone u × (BaseGives b t → (vs : List Value) (v : Value) → HasType v (type_at t None) → Square b vs u v)
 
   square_verdict-has : (last from : Place) (ps : List Part) (b : Base Text) (t u : ValueType) → type_by (square_verdict last from ps t) ≡ Some u → Squares b t u
-  square_verdict-has last from ps b (Scalar k) u h = absurd cc
   square_verdict-has last from ps b (RangeType strided) u h =
       subst (Squares b (RangeType strided)) (judged-gives (all_known ps) (slice_breaches last 1 ps) (RangeType strided) u h).2 (
         λ i. refl,
@@ -188,19 +158,14 @@ module _ {S : Type 0} (limits : Limits) (env : Environment Text S) (scopes : Sco
   square_verdict-has last from ps b (ArrayType k over) u h =
       let element = array_verdict-has last from ps b (ArrayType k over) u h in
       (element.0, λ base vs v hv. subst (Square b vs u) (sym hv.1) (element.1 base (index_of vs)))
-  square_verdict-has last from ps b (Promoted k over) u h = absurd cc
-  square_verdict-has last from ps b (TupleType rank) u h = absurd cc
-  square_verdict-has last from ps b LocaleType u h = absurd cc
   square_verdict-has last from ps b AllLocalesType u h =
       subst (Squares b AllLocalesType) (judged-gives (all_known ps) (locale_breaches last ps) LocaleType u h).2
       (λ i. refl, λ base vs v hv. subst (Square b vs LocaleType) (sym hv) (locale_of-has limits.locales b (leading (index_of vs))))
-  square_verdict-has last from ps b (CellType k) u h = absurd cc
+  square_verdict-has last from ps b _ u h = absurd cc
 
   -- ---- methods
   expand-has : (at : Place) (p : Part) (r : Result Value Fault) (t u : ValueType) → type_by (expand_verdict at p (domain_of t)) ≡ Some u
       → Gives t u (λ v. with_ok r (λ k. expanded at (number k) (ranges_in v)))
-  expand-has at p r (Scalar k) u h = absurd cc
-  expand-has at p r (RangeType strided) u h = absurd cc
   expand-has at p r (DomainType rank strided) u h =
       let told = expand_verdict-type at p rank strided u h in
       subst (λ u. Gives (DomainType rank strided) u (λ v. with_ok r (λ k. expanded at (number k) (ranges_in v)))) told.1 (
@@ -208,12 +173,7 @@ module _ {S : Type 0} (limits : Limits) (env : Environment Text S) (scopes : Sco
         λ v hv. with_ok-if (λ w. HasType w (DomainType rank false)) r _
             (λ k. expanded-has at rank (number k) v (subst (λ b. HasType v (DomainType rank b)) told.0 hv)),
       )
-  expand-has at p r (ArrayType k over) u h = absurd cc
-  expand-has at p r (Promoted k over) u h = absurd cc
-  expand-has at p r (TupleType rank) u h = absurd cc
-  expand-has at p r LocaleType u h = absurd cc
-  expand-has at p r AllLocalesType u h = absurd cc
-  expand-has at p r (CellType k) u h = absurd cc
+  expand-has at p r _ u h = absurd cc
 
   pub answer_of-has : (m : MethodTree Text) (t u : ValueType) → type_by (method_verdict scopes m t) ≡ Some u → Gives t u (answer_of limits env m s)
   answer_of-has (Plainly at w) t u h = method_of-has at w t u h

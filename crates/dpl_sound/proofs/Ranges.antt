@@ -1,14 +1,14 @@
 -- Slices, dimensions and expansions of ranges and domains keep the rank, and have no `by` that these hadn't.
 -- A domain of typed items has a range for each, and is strided where one of these is.
-use Rattle.std.proofs.Common.{◌≡◌, ℕ, zero, suc, ℤ, pos, Bool, true, false, List, [], ◌∷◌, ◌++◌, length, Option, Some, None, refl, sym, ap, subst}
+use Rattle.std.proofs.Common.{◌≡◌, ℕ, zero, suc, ℤ, pos, Bool, true, false, List, [], ◌∷◌, ◌++◌, length, Option, Some, refl, sym, ap, subst}
 use Rattle.std.specs.Prelude.{◌||◌, is_some, slice_index_or}
 use Rattle.dpl_syntax.specs.declared.place.Place.{Place}
 use Rattle.dpl_sets.specs.TextRanges.{TextRange, text_sliced}
 use Rattle.dpl_sets.specs.TextDomains.{text_moved, text_expanded}
 use Rattle.dpl_language.specs.Values.{Value, Range, ranges_in, all_ranges}
 use Rattle.dpl_language.specs.Ranges.{unstrided, all_sliced, range_sliced, dimension}
-use Rattle.dpl_rules.specs.Types.{ValueType, Scalar, Range as RangeType, Domain as DomainType, Array as ArrayType, Promoted}
-use Rattle.dpl_rules.specs.Types.{Tuple as TupleType, Locale as LocaleType, AllLocales as AllLocalesType, Cell as CellType, has, is_range}
+use Rattle.dpl_rules.specs.Types.{ValueType, Range as RangeType}
+use Rattle.dpl_rules.specs.Types.{has, is_range}
 use Rattle.dpl_rules.specs.Verdicts.{Part, all_known, owed_type, wanted, each_wanted}
 use Rattle.dpl_rules.specs.Operators.{is_strided_range, any_strided}
 use Rattle.dpl_rules.proofs.Admission.{first_empty, second_empty}
@@ -71,17 +71,9 @@ joined-strides false false r rs p q = (p.0, q)
 -- the value of a part that is a range by its type
 part-range : (o : Option ValueType) (at : Place) (v : Value) → is_some o ≡ true → HasPartType v o → owed_type is_range at o ≡ []
     → (r : TextRange) × (v ≡ Range r) × MayStride (has is_strided_range o) (r ∷ [])
-part-range None at v k h w = absurd cc
-part-range (Some (Scalar kind)) at v k h w = absurd cc
 part-range (Some (RangeType true)) at v k h w = h
 part-range (Some (RangeType false)) at v k h w = h
-part-range (Some (DomainType rank strided)) at v k h w = absurd cc
-part-range (Some (ArrayType kind over)) at v k h w = absurd cc
-part-range (Some (Promoted kind over)) at v k h w = absurd cc
-part-range (Some (TupleType rank)) at v k h w = absurd cc
-part-range (Some LocaleType) at v k h w = absurd cc
-part-range (Some AllLocalesType) at v k h w = absurd cc
-part-range (Some (CellType kind)) at v k h w = absurd cc
+part-range _ at v k h w = absurd cc
 
 one_more : (a b : Bool) (rank : ℕ) (r : TextRange) (rs : List TextRange) → MayStride a (r ∷ []) → AreRanked rank b rs → AreRanked (suc rank) (a || b) (r ∷ rs)
 one_more a b rank r rs p h = (ap suc h.0, joined-strides a b r rs p h.1)

@@ -69,18 +69,8 @@ ranges_verdict-has from ps u h =
 -- the bare word `Locales`, or an expression with a type of its own
 pub bare-by : (scopes : Scopes) (P : ExprTree Text → Type 0) (e : ExprTree Text) (t : ValueType) → locales_or (bare_locales e) (type_of scopes e) ≡ Some t
     → (type_of scopes e ≡ Some t → P e) → ((at : Place) → AllLocalesType ≡ t → P (LocalesWord at)) → P e
-bare-by scopes P (Number at n) t h own all = own h
-bare-by scopes P (TruthWord at b) t h own all = own h
-bare-by scopes P (Named x) t h own all = own h
 bare-by scopes P (LocalesWord at) t h own all = all at (some-same AllLocalesType t h)
-bare-by scopes P (LocaleCount at) t h own all = own h
-bare-by scopes P (HereWord at) t h own all = own h
-bare-by scopes P (Grouped from item upto) t h own all = own h
-bare-by scopes P (DomainLiteral from items upto) t h own all = own h
-bare-by scopes P (Prefixed at op e) t h own all = own h
-bare-by scopes P (Reduced at op word e) t h own all = own h
-bare-by scopes P (Chain e rest) t h own all = own h
-bare-by scopes P (Postfixed e posts) t h own all = own h
+bare-by scopes P _ t h own all = own h
 
 pub kind-no_array : (k j : Kind) (over : Over) → IsOfKind j (ArrayType k over) → ⊥
 kind-no_array k j over p = never (p None)
@@ -95,14 +85,9 @@ module _ {S : Type 0} (limits : Limits) (env : Environment Text S) (scopes : Sco
   -- an expression of an array's type is its name, perhaps in round brackets, so that brackets index that array
   mutual
     base_of-gives : (e : ExprTree Text) → ExprFormed e → (t : ValueType) → type_of scopes e ≡ Some t → BaseGives limits env scopes s (base_of e) t
-    base_of-gives (Number at n) f t h k over a i = absurd cc
-    base_of-gives (TruthWord at b) f t h k over a i = absurd cc
     base_of-gives (Named x) f t h k over a i =
         found-if (OfKind k) x.at (env.element x.name i s)
         (elements-fit env scopes s fits limits x.name t (name_verdict-gives x.at (lookup scopes x.name) t h) k over a i)
-    base_of-gives (LocalesWord at) f t h k over a i = absurd cc
-    base_of-gives (LocaleCount at) f t h k over a i = absurd cc
-    base_of-gives (HereWord at) f t h k over a i = absurd cc
     base_of-gives (Grouped from item upto) f t h k over a i = item_base-gives item f t h k over a i
     base_of-gives (DomainLiteral from items upto) f t h k over a i =
         elim (lone-no_array k over (subst IsLone a (ranges_verdict-has from (item_parts scopes items) t h).0)) [ ]
@@ -116,6 +101,7 @@ module _ {S : Type 0} (limits : Limits) (env : Environment Text S) (scopes : Sco
     base_of-gives (Postfixed e posts) f t h k over a i =
         let first = posts_type-gives limits env scopes s (locales_or (bare_locales e) (type_of scopes e)) posts (last_of e) t h in
         elim (lone-no_array k over (subst IsLone a (behind-has limits env scopes s posts (base_of e) (last_of e) first.0 t f.0 first.2).0)) [ ]
+    base_of-gives _ f t h k over a i = absurd cc
 
     item_base-gives : (item : ItemTree Text) → ItemFormed item → (t : ValueType) → item_type scopes item ≡ Some t → BaseGives limits env scopes s (item_base item) t
     item_base-gives (One e) f t h k over a i = base_of-gives e f t h k over a i

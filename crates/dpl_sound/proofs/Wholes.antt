@@ -2,7 +2,7 @@
 -- array is no array by its type, and one with a whole array is no cell read.
 use Rattle.std.proofs.Common.{◌≡◌, List, Option, Some, None, refl, sym, ap, ◌∙◌, subst}
 use Rattle.dpl_sets.specs.TextRanges.{TextRange}
-use Rattle.dpl_language.specs.Tree.{Kind, ExprTree, Number, TruthWord, Named, LocalesWord, LocaleCount, HereWord, Grouped, DomainLiteral, Prefixed, Reduced, Chain, Postfixed, ItemTree, One, RangeItem}
+use Rattle.dpl_language.specs.Tree.{Kind, ExprTree, Named, Grouped, DomainLiteral, Prefixed, Reduced, Chain, Postfixed, ItemTree, One, RangeItem}
 use Rattle.dpl_language.specs.Values.{array_domain}
 use Rattle.dpl_language.specs.Names.{Text}
 use Rattle.dpl_language.specs.Environment.{Environment, Limits}
@@ -25,18 +25,11 @@ use Rattle.dpl_sound.proofs.Sound.{range_item-type, ranges_verdict-has, kind-no_
 -- ---- a cell read
 module _ {N S : Type 0} (limits : Limits) (env : Environment N S) (s : S) where
   cell_read-whole : (e : ExprTree N) (r : ReadTree N) → cell_read e ≡ Some r → whole_in limits env e s ≡ None
-  cell_read-whole (Number at n) r h = refl
-  cell_read-whole (TruthWord at b) r h = refl
   cell_read-whole (Named x) r h = absurd cc
-  cell_read-whole (LocalesWord at) r h = refl
-  cell_read-whole (LocaleCount at) r h = refl
-  cell_read-whole (HereWord at) r h = refl
   cell_read-whole (Grouped from item upto) r h = absurd cc
-  cell_read-whole (DomainLiteral from items upto) r h = refl
   cell_read-whole (Prefixed at op e) r h = absurd cc
-  cell_read-whole (Reduced at op word e) r h = refl
   cell_read-whole (Chain e rest) r h = absurd cc
-  cell_read-whole (Postfixed e posts) r h = refl
+  cell_read-whole _ r h = refl
 
   pub item_read-whole : (item : ItemTree N) (r : ReadTree N) → item_read item ≡ Some r → whole_item limits env item s ≡ None
   item_read-whole (One e) r h = cell_read-whole e r h
@@ -50,14 +43,9 @@ module _ {S : Type 0} (limits : Limits) (env : Environment Text S) (s : S) where
 
     mutual
       whole_in-array : (e : ExprTree Text) → ExprFormed e → (k : Kind) (over : Over) → type_of scopes e ≡ Some (ArrayType k over) → HasWhole e
-      whole_in-array (Number at n) f k over h = absurd cc
-      whole_in-array (TruthWord at b) f k over h = absurd cc
       whole_in-array (Named x) f k over h =
           let value = fits.values x.name (ArrayType k over) (name_verdict-gives x.at (lookup scopes x.name) (ArrayType k over) h) in
           (value.0, ap array_domain value.1)
-      whole_in-array (LocalesWord at) f k over h = absurd cc
-      whole_in-array (LocaleCount at) f k over h = absurd cc
-      whole_in-array (HereWord at) f k over h = absurd cc
       whole_in-array (Grouped from item upto) f k over h = whole_item-array item f k over h
       whole_in-array (DomainLiteral from items upto) f k over h = elim (lone-no_array k over (ranges_verdict-has from (item_parts scopes items) (ArrayType k over) h).0) [ ]
       whole_in-array (Prefixed at op e) f k over h = elim (kind-no_array k (prefix_kind op) over (prefix_verdict-kind at op (type_of scopes e) (ArrayType k over) h)) [ ]
@@ -69,6 +57,7 @@ module _ {S : Type 0} (limits : Limits) (env : Environment Text S) (s : S) where
       whole_in-array (Postfixed e posts) f k over h =
           let first = posts_type-gives limits env scopes s (locales_or (bare_locales e) (type_of scopes e)) posts (last_of e) (ArrayType k over) h in
           elim (lone-no_array k over (behind-has limits env scopes s posts (base_of e) (last_of e) first.0 (ArrayType k over) f.0 first.2).0) [ ]
+      whole_in-array _ f k over h = absurd cc
 
       pub whole_item-array : (item : ItemTree Text) → ItemFormed item → (k : Kind) (over : Over) → item_type scopes item ≡ Some (ArrayType k over)
           → (rs : List TextRange) × (whole_item limits env item s ≡ Some rs)

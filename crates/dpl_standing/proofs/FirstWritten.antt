@@ -3,7 +3,7 @@
 use Rattle.std.proofs.Common.{◌≡◌, Option, Some, None, refl, ap, ◌∙◌}
 use Rattle.std.specs.Option.{option_or}
 use Rattle.std.specs.Prelude.{option_map}
-use Rattle.dpl_language.specs.Tree.{TargetTree, Whole, Element, StmtTree, Nothing, Declare, Assigned, Call, Write, Block, If, Headed, Loop, Body, WordBody, BlockBody, Stmts, NoStmts, Then, Else, NoElse, ElseDo}
+use Rattle.dpl_language.specs.Tree.{TargetTree, Whole, Element, StmtTree, Assigned, Block, If, Headed, Loop, Body, WordBody, BlockBody, Stmts, NoStmts, Then, Else, NoElse, ElseDo}
 use Rattle.dpl_agreement.specs.Renamed.{renamed_target, renamed_stmt, renamed_body, renamed_stmts, renamed_else}
 use Rattle.dpl_lowered.specs.Known.{Known}
 use Rattle.dpl_lowered.specs.LoweredStatements.{lowered_target, lowered_stmt, lowered_body, lowered_stmts, lowered_else}
@@ -24,15 +24,12 @@ module _ {M N T : Type 0} (f : M → N) (told : N → T) where
 
   mutual
     pub written-renamed : (t : StmtTree M) → first_written told (renamed_stmt f t) ≡ first_written (λ x. told (f x)) t
-    written-renamed (Nothing at) = refl
-    written-renamed (Declare d) = refl
     written-renamed (Assigned target sign item semicolon) = target-renamed target
-    written-renamed (Call x dot call semicolon) = refl
-    written-renamed (Write t) = refl
     written-renamed (Block from ts upto) = among-renamed ts
     written-renamed (If at e first second) = either (body-renamed first) (else-renamed second)
     written-renamed (Headed word at e body) = body-renamed body
     written-renamed (Loop word at xs within item intents body) = body-renamed body
+    written-renamed _ = refl
 
     pub body-renamed : (t : Body M) → first_in_body told (renamed_body f t) ≡ first_in_body (λ x. told (f x)) t
     body-renamed (WordBody at t) = written-renamed t
@@ -54,15 +51,12 @@ module _ {N T : Type 0} (known : N → Known) (told : N → T) where
 
   mutual
     pub written-lowered : (t : StmtTree N) → first_written told (lowered_stmt known t) ≡ first_written told t
-    written-lowered (Nothing at) = refl
-    written-lowered (Declare d) = refl
     written-lowered (Assigned target sign item semicolon) = target-lowered target
-    written-lowered (Call x dot call semicolon) = refl
-    written-lowered (Write t) = refl
     written-lowered (Block from ts upto) = among-lowered ts
     written-lowered (If at e first second) = either (body-lowered first) (else-lowered second)
     written-lowered (Headed word at e body) = body-lowered body
     written-lowered (Loop word at xs within item intents body) = body-lowered body
+    written-lowered _ = refl
 
     pub body-lowered : (t : Body N) → first_in_body told (lowered_body known t) ≡ first_in_body told t
     body-lowered (WordBody at t) = either_none (first_written told (lowered_stmt known t)) ∙ written-lowered t
@@ -88,15 +82,12 @@ module _ {N M T : Type 0} (told : N → M) (more : M → T) where
 
   mutual
     pub written-told : (t : StmtTree N) → option_map more (first_written told t) ≡ first_written (λ x. more (told x)) t
-    written-told (Nothing at) = refl
-    written-told (Declare d) = refl
     written-told (Assigned target sign item semicolon) = target-told target
-    written-told (Call x dot call semicolon) = refl
-    written-told (Write t) = refl
     written-told (Block from ts upto) = among-told ts
     written-told (If at e first second) = either-map (first_in_body told first) (first_in_else told second) ∙ either (body-told first) (else-told second)
     written-told (Headed word at e body) = body-told body
     written-told (Loop word at xs within item intents body) = body-told body
+    written-told _ = refl
 
     pub body-told : (t : Body N) → option_map more (first_in_body told t) ≡ first_in_body (λ x. more (told x)) t
     body-told (WordBody at t) = written-told t

@@ -4,7 +4,7 @@ use Rattle.std.proofs.Common.{◌≡◌, Bool, true, false, List, [], ◌∷◌,
 use Rattle.std.specs.Prelude.{if◌then◌else◌}
 use Rattle.std.specs.Option.{option_or}
 use Rattle.dpl_syntax.specs.declared.place.Place.{Place}
-use Rattle.dpl_language.specs.Tree.{ExprTree, Number, TruthWord, Named, LocalesWord, LocaleCount, HereWord, Grouped, DomainLiteral, Prefixed, Reduced, Chain, Postfixed, ItemTree, One, RangeItem, Stride, NoStride, By, Links, NoLinks, Link, Posts, NoPosts, Post, PostTree, Brackets, Rounds, Dotted, MethodTree, Plainly, Dim, Contains, Expand, CellRead, Items, FirstItem, MoreItems, NoItems, NextItem, Exprs, FirstExpr, MoreExprs, NoExprs, NextExpr}
+use Rattle.dpl_language.specs.Tree.{ExprTree, Named, Grouped, DomainLiteral, Prefixed, Reduced, Chain, Postfixed, ItemTree, One, RangeItem, Stride, NoStride, By, Links, NoLinks, Link, Posts, NoPosts, Post, PostTree, Brackets, Rounds, Dotted, MethodTree, Plainly, Dim, Contains, Expand, CellRead, Items, FirstItem, MoreItems, NoItems, NextItem, Exprs, FirstExpr, MoreExprs, NoExprs, NextExpr}
 use Rattle.dpl_language.specs.Tree.{StartTree, StartExpr, StartTuple, MapTree, BlockMap, CyclicMap, BlockCyclicMap, MappedTree, TypeTree, ScalarType, SyncType, DomainType, ArrayType, InitTree, ItemInit, CreateInit, InitialTree, DeclareTree}
 use Rattle.dpl_language.specs.Tree.{IntentTree, ReduceIntent, RefIntent, WithTree, CallTree, ReadCall, ResetCall, WriteCall, Placed}
 use Rattle.dpl_language.specs.Names.{Text}
@@ -101,12 +101,7 @@ module _ (loop : ForallScope) where
   module _ (ss : Scopes) where
     mutual
       pub expr-reads : (e : ExprTree Text) → ReadsAlone (expr_deeds ss e)
-      expr-reads (Number at n) = refl
-      expr-reads (TruthWord at b) = refl
       expr-reads (Named x) = declared-reads ss x.at NoPosts (lookup ss x.name)
-      expr-reads (LocalesWord at) = refl
-      expr-reads (LocaleCount at) = refl
-      expr-reads (HereWord at) = refl
       expr-reads (Grouped from item upto) = item-reads item
       expr-reads (DomainLiteral from items upto) = items-read items
       expr-reads (Prefixed at op e) = expr-reads e
@@ -115,6 +110,7 @@ module _ (loop : ForallScope) where
       expr-reads (Postfixed e posts) =
           both-read (base_deeds ss (base_of e) posts (expr_deeds ss e)) (posts_deeds ss posts)
           (base-reads ss (base_of e) posts (expr_deeds ss e) (expr-reads e)) (posts-read posts)
+      expr-reads _ = refl
 
       pub item-reads : (item : ItemTree Text) → ReadsAlone (item_deeds ss item)
       item-reads (One e) = expr-reads e

@@ -2,7 +2,7 @@
 -- outside it is asked that nothing needs what doesn't run yet, so that there are no tasks.
 use Rattle.std.proofs.Common.{◌≡◌, List, [], ◌∷◌, ◌++◌, Option, refl, sym, ap, ◌∙◌, append_assoc}
 use Rattle.dpl_syntax.specs.declared.refusal.Breach.{Breach}
-use Rattle.dpl_language.specs.Tree.{ItemTree, VariablesTree, WithTree, WhileWord, OnWord, LoopWord, ForWord, ForallWord, CoforallWord, StmtTree, Nothing, Declare, Assigned, Call, Write, Block, If, Headed, Loop, Body, WordBody, BlockBody, Stmts, NoStmts, Then, Else, NoElse, ElseDo}
+use Rattle.dpl_language.specs.Tree.{ItemTree, VariablesTree, WithTree, OnWord, LoopWord, ForWord, ForallWord, CoforallWord, StmtTree, Write, Block, If, Headed, Loop, Body, WordBody, BlockBody, Stmts, NoStmts, Then, Else, NoElse, ElseDo}
 use Rattle.dpl_language.specs.Names.{Text}
 use Rattle.dpl_agreement.specs.Untasked.{UntaskedLoop, UntaskedStmt, UntaskedBody, UntaskedStmts, UntaskedElse}
 use Rattle.dpl_rules.specs.Types.{Origin}
@@ -37,10 +37,6 @@ module _ (loop : ForallScope) (written : List Origin) where
 
   mutual
     pub turn-stands : (ss : Scopes) (t : StmtTree Text) → each (deed_breaches loop written) (stmt_deeds ss t) ≡ [] → MayStand InTurn t
-    turn-stands ss (Nothing at) m = tt
-    turn-stands ss (Declare d) m = tt
-    turn-stands ss (Assigned target sign item semicolon) m = tt
-    turn-stands ss (Call x dot call semicolon) m = tt
     turn-stands ss (Write t) m = absurd cc
     turn-stands ss (Block from ts upto) m = turn_stmts-stand (enter ss) ts m
     turn-stands ss (If at e first second) m =
@@ -50,13 +46,14 @@ module _ (loop : ForallScope) (written : List Origin) where
           turn_body-stands (enter ss) first (second_done tested first_deeds (first_done (tested ++ first_deeds) second_deeds m)),
           turn_else-stands (enter ss) second (second_done (tested ++ first_deeds) second_deeds m),
         )
-    turn-stands ss (Headed WhileWord at e body) m = turn_body-stands (enter ss) body (second_done (expr_deeds ss e) (body_deeds (enter ss) body) m)
     turn-stands ss (Headed OnWord at e body) m = absurd cc
+    turn-stands ss (Headed _ at e body) m = turn_body-stands (enter ss) body (second_done (expr_deeds ss e) (body_deeds (enter ss) body) m)
     turn-stands ss (Loop ForWord at xs within item intents body) m =
         let inner = in_loop ss ForWord xs item in
         (tt, turn_body-stands inner body (second_done (item_deeds ss item ++ with_deeds intents) (body_deeds inner body) m))
     turn-stands ss (Loop ForallWord at xs within item intents body) m = absurd cc
     turn-stands ss (Loop CoforallWord at xs within item intents body) m = absurd cc
+    turn-stands ss _ m = tt
 
     pub turn_body-stands : (ss : Scopes) (t : Body Text) → each (deed_breaches loop written) (body_deeds ss t) ≡ [] → BodyMayStand InTurn t
     turn_body-stands ss (WordBody at t) m = turn-stands ss t m
@@ -87,11 +84,6 @@ loop-stands sight CoforallWord xs item intents body c told inner = absurd c
 
 mutual
   pub program-stands : (sight : Sight) (t : StmtTree Text) → UntaskedStmt t → stmt_breaches sight t ≡ [] → MayStand Outside t
-  program-stands sight (Nothing at) c h = tt
-  program-stands sight (Declare d) c h = tt
-  program-stands sight (Assigned target sign item semicolon) c h = tt
-  program-stands sight (Call x dot call semicolon) c h = tt
-  program-stands sight (Write t) c h = tt
   program-stands sight (Block from ts upto) c h = program_stmts-stand (inside sight (enter sight.scopes)) ts c h
   program-stands sight (If at e first second) c h =
       let within = inside sight (enter sight.scopes) in
@@ -112,6 +104,7 @@ mutual
       loop-stands sight word xs item intents body c.2
       (second_empty heads told (first_empty (heads ++ told) others h))
       (program_body-stands (in_turn sight word xs item intents) body c.1 (second_empty (heads ++ told) others h))
+  program-stands sight _ c h = tt
 
   pub program_body-stands : (sight : Sight) (t : Body Text) → UntaskedBody t → body_breaches sight t ≡ [] → BodyMayStand Outside t
   program_body-stands sight (WordBody at t) c h = program-stands sight t c h

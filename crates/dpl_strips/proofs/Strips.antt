@@ -14,7 +14,7 @@ use Rattle.dpl_language.specs.Expressions.{value_of, items_of, values_of, found}
 use Rattle.dpl_language.specs.Environment.{Limits}
 use Rattle.dpl_lowered.specs.Shapes.{nowhere, two}
 use Rattle.dpl_memory.specs.Memory.{Variable, Held, Memory, element_as, held_at, array_at, in_memory}
-use Rattle.dpl_nodes.specs.declared.tree.IndexExpr.{IndexExpr, Line', Plane', Space', Tuple}
+use Rattle.dpl_nodes.specs.declared.tree.IndexExpr.{IndexExpr, Line'}
 use Rattle.dpl_nodes.specs.Typed.{array_named, in_square, index_items, index_exprs}
 use Rattle.dpl_loop.specs.declared.strip.Strip.{Strip}
 use Rattle.dpl_strips.specs.declared.apply.Wrapping.{Wrapping}
@@ -105,9 +105,7 @@ module _ (limits : Limits) (a b : ExprTree Variable) (t : Option Index) (s : Mem
 -- the coordinates of an index are its items
 items-values : (limits : Limits) (x : IndexExpr) (u : Memory) → items_of limits in_memory (index_items x) u ≡ values_of limits in_memory (index_exprs x) u
 items-values limits (Line' p a) u = refl
-items-values limits (Plane' p a q b) u = refl
-items-values limits (Space' p a q b r c) u = refl
-items-values limits (Tuple slot) u = refl
+items-values limits _ u = refl
 
 -- the word at an index that is found is the element's value
 found-word : (kind : Kind) (at : Place) (held : Held) (t : Index) (word : ℤ) (found_at : Result (List Value) Fault) → with_ok found_at (λ vs. Ok (index_of vs)) ≡ Ok t → held_at t held ≡ Some word

@@ -8,7 +8,7 @@ use Rattle.dpl_language.specs.Outcome.{Deeds, Done, Stop, Run, with_value, then_
 use Rattle.dpl_language.specs.Environment.{Limits}
 use Rattle.dpl_language.specs.Expressions.{found}
 use Rattle.dpl_language.specs.Assignments.{change}
-use Rattle.dpl_memory.specs.Memory.{VariableKind, PlainKind, DomainKind, TupleKind, CellKind, ArrayKind, Memory, rest_of, Variable, with_value_in, with_element_in, in_memory}
+use Rattle.dpl_memory.specs.Memory.{VariableKind, PlainKind, Memory, rest_of, Variable, with_value_in, with_element_in, in_memory}
 use Rattle.dpl_apart.specs.Workers.{worker_end}
 use Rattle.dpl_turns.specs.Alongside.{KeepsRest, IsQuiet}
 
@@ -59,17 +59,11 @@ quiet-repeated (suc n) at test body quiet s =
 -- ---- what is no variable's
 put-rest : (k : VariableKind) (slot : ℕ) (t : Index) (v : Value) (s : Memory) → rest_of (with_element_in k slot t v s) ≡ rest_of s
 put-rest (PlainKind k) slot t v s = refl
-put-rest DomainKind slot t v s = refl
-put-rest TupleKind slot t v s = refl
-put-rest (ArrayKind k) slot t v s = refl
-put-rest (CellKind c) slot t v s = refl
+put-rest _ slot t v s = refl
 
 pub value-rest : (k : VariableKind) (slot : ℕ) (v : Value) (s : Memory) → rest_of (with_value_in k slot v s) ≡ rest_of s
 value-rest (PlainKind k) slot v s = refl
-value-rest DomainKind slot v s = refl
-value-rest TupleKind slot v s = refl
-value-rest (ArrayKind k) slot v s = refl
-value-rest (CellKind c) slot v s = refl
+value-rest _ slot v s = refl
 
 module _ (limits : Limits) where
   pub quiet-change : (x : Placed Variable) (sign : AssignTree) (t : Index) (w : Value) → IsQuiet (change limits in_memory x sign t w)

@@ -163,23 +163,11 @@ module _ (limits : Limits) (h : Changes) (own : OwnNames) (t : Index) (first sec
 
   domain-targets : (k : VariableKind) (slot : ℕ) (s u : Memory) → is_domain (value_in k slot s) ≡ is_domain (value_in k slot u)
   domain-targets (PlainKind IntLeaf) slot s u = refl
-  domain-targets (PlainKind TruthLeaf) slot s u = refl
-  domain-targets (PlainKind RangeLeaf) slot s u = refl
-  domain-targets (PlainKind LocaleLeaf) slot s u = refl
-  domain-targets DomainKind slot s u = refl
-  domain-targets TupleKind slot s u = refl
-  domain-targets (ArrayKind k) slot s u = refl
-  domain-targets (CellKind c) slot s u = refl
+  domain-targets _ slot s u = refl
 
   no-domain : (k : VariableKind) (slot : ℕ) (op : Assign) (s : Memory) → may_assign h own k slot op ≡ true → is_domain (value_in k slot s) ≡ true → ⊥
   no-domain (PlainKind IntLeaf) slot op s may is = cc
-  no-domain (PlainKind TruthLeaf) slot op s may is = cc
-  no-domain (PlainKind RangeLeaf) slot op s may is = cc
-  no-domain (PlainKind LocaleLeaf) slot op s may is = cc
-  no-domain DomainKind slot op s may is = cc
-  no-domain TupleKind slot op s may is = cc
-  no-domain (ArrayKind k) slot op s may is = cc
-  no-domain (CellKind c) slot op s may is = cc
+  no-domain _ slot op s may is = cc
 
   -- a number that is put to both
   with-numbers : (s u : Memory) (slot : ℕ) (y z : ℤ) → GoAlong tt s u → is_among slot (own_slots own) ≡ false
@@ -307,19 +295,13 @@ module _ (limits : Limits) (h : Changes) (own : OwnNames) (t : Index) (first sec
     by false e = lent-along h t first second formed_first formed like rows words s u r.0 slot e i
 
   elements-at : (k : VariableKind) (slot : ℕ) (i : Index) (s u : Memory) → GoAlong tt s u → ReadsAt h own k slot i t → element_in k slot i s ≡ element_in k slot i u
-  elements-at (PlainKind k) slot i s u r may = refl
-  elements-at DomainKind slot i s u r may = refl
-  elements-at TupleKind slot i s u r may = refl
   elements-at (ArrayKind k) slot i s u r may = ap (option_map (element_as k)) (element-same slot i s u r may)
-  elements-at (CellKind c) slot i s u r may = refl
+  elements-at _ slot i s u r may = refl
 
   elements : (k : VariableKind) (slot : ℕ) (items : Items Variable) (vs : List Value) (s u : Memory) → GoAlong tt s u → ReadsElement h own k slot items → items_of limits in_memory items u ≡ Ok vs
       → element_in k slot (index_of vs) s ≡ element_in k slot (index_of vs) u
-  elements (PlainKind k) slot items vs s u r may given = refl
-  elements DomainKind slot items vs s u r may given = refl
-  elements TupleKind slot items vs s u r may given = refl
   elements (ArrayKind k) slot items vs s u r may given = ap (option_map (element_as k)) (element-same slot (index_of vs) s u r (λ e. own-index limits own t items vs u (may e) r.1 given))
-  elements (CellKind c) slot items vs s u r may given = refl
+  elements _ slot items vs s u r may given = refl
 
   puts-array : (k : Kind) (slot : ℕ) (i : Index) (v : Value) (s u : Memory) → GoAlong tt s u → is_among slot h.written ≡ true → i ≡ t
       → GoAlong tt (with_element_in (ArrayKind k) slot i v s) (with_element_in (ArrayKind k) slot i v u)
@@ -328,19 +310,13 @@ module _ (limits : Limits) (h : Changes) (own : OwnNames) (t : Index) (first sec
       (put-along h t first second formed_first formed rows words slot k v s u written r.0, r.1)
 
   puts-at : (k : VariableKind) (slot : ℕ) (i : Index) (v : Value) (s u : Memory) → GoAlong tt s u → AssignsAt h own k slot i t → GoAlong tt (with_element_in k slot i v s) (with_element_in k slot i v u)
-  puts-at (PlainKind k) slot i v s u r may = r
-  puts-at DomainKind slot i v s u r may = r
-  puts-at TupleKind slot i v s u r may = r
   puts-at (ArrayKind k) slot i v s u r may = puts-array k slot i v s u r may.0 may.1
-  puts-at (CellKind c) slot i v s u r may = r
+  puts-at _ slot i v s u r may = r
 
   puts : (k : VariableKind) (slot : ℕ) (items : Items Variable) (vs : List Value) (v : Value) (s u : Memory) → GoAlong tt s u → AssignsElement h own k slot items → items_of limits in_memory items u ≡ Ok vs
       → GoAlong tt (with_element_in k slot (index_of vs) v s) (with_element_in k slot (index_of vs) v u)
-  puts (PlainKind k) slot items vs v s u r may given = r
-  puts DomainKind slot items vs v s u r may given = r
-  puts TupleKind slot items vs v s u r may given = r
   puts (ArrayKind k) slot items vs v s u r may given = puts-array k slot (index_of vs) v s u r may.0 (own-index limits own t items vs u may.1 r.1 given)
-  puts (CellKind c) slot items vs v s u r may given = r
+  puts _ slot items vs v s u r may given = r
 
   -- ---- declarations
   declares-value : (k : VariableKind) (slot : ℕ) (along : List ℕ) (v : Value) (s u : Memory) → GoAlong tt s u → (begins_anew h own k slot && is_none along) ≡ true

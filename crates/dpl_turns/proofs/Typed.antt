@@ -8,8 +8,8 @@ use Rattle.dpl_language.specs.Statements.{exec_all}
 use Rattle.dpl_memory.specs.Memory.{Variable, in_memory}
 use Rattle.dpl_nodes.specs.declared.step.Names.{Names}
 use Rattle.dpl_nodes.specs.declared.step.Names.TheVariants.{Int as IntName, Tuple as TupleName, Each}
-use Rattle.dpl_nodes.specs.declared.tree.IntExpr.{IntExpr, Number, Local as IntLocal, Negative' as IntNegative', Sum' as IntSum', Difference' as IntDifference', Product' as IntProduct', Quotient' as IntQuotient', Remainder' as IntRemainder', Size', First', Last', Low', High', Count', Element', Reduced' as IntReduced'}
-use Rattle.dpl_nodes.specs.declared.tree.BoolExpr.{BoolExpr, Truth as TruthNode, Local as TruthLocal, Not' as TruthNot', And' as TruthAnd', Or' as TruthOr', Same' as TruthSame', Differ' as TruthDiffer', Compare as TruthCompare, Contains, HasIndex, Element as TruthAt, Reduced' as TruthReduced'}
+use Rattle.dpl_nodes.specs.declared.tree.IntExpr.{IntExpr, Number, Local as IntLocal, Negative' as IntNegative', Sum' as IntSum', Difference' as IntDifference', Product' as IntProduct', Quotient' as IntQuotient', Remainder' as IntRemainder'}
+use Rattle.dpl_nodes.specs.declared.tree.BoolExpr.{BoolExpr, Truth as TruthNode, Local as TruthLocal, Not' as TruthNot', And' as TruthAnd', Or' as TruthOr', Same' as TruthSame', Differ' as TruthDiffer', Compare as TruthCompare}
 use Rattle.dpl_nodes.specs.declared.tree.PromotedInt.{PromotedInt, Scalar' as IntScalar', Element as IntsElement, Negative' as Negatives', Sum' as Sums', Difference' as Differences', Product' as Products', Quotient' as Quotients', Remainder' as Remainders'}
 use Rattle.dpl_nodes.specs.declared.tree.PromotedTruth.{PromotedTruth, Scalar' as TruthScalar', Element as TruthsElement, Not' as Nots', And' as Ands', Or' as Ors', Same' as Sames', Differ' as Differs', Compare as Compares}
 use Rattle.dpl_nodes.specs.Typed.{int_view, truth_view, promoted_int, promoted_truth}
@@ -46,14 +46,7 @@ module _ (h : Changes) (own : OwnNames) (t i : Index) where
   int_view-fits (IntProduct' p a q b) fits = (int_view-fits a fits.0, (int_view-fits b fits.1.0, tt))
   int_view-fits (IntQuotient' p a q b at) fits = (int_view-fits a fits.0, (int_view-fits b fits.1.0, tt))
   int_view-fits (IntRemainder' p a q b at) fits = (int_view-fits a fits.0, (int_view-fits b fits.1.0, tt))
-  int_view-fits (Size' p r) fits = fits
-  int_view-fits (First' p r at) fits = fits
-  int_view-fits (Last' p r at) fits = fits
-  int_view-fits (Low' p r at) fits = fits
-  int_view-fits (High' p r at) fits = fits
-  int_view-fits (Count' p d) fits = fits
-  int_view-fits (Element' slot p x at) fits = fits
-  int_view-fits (IntReduced' f p e at) fits = fits
+  int_view-fits _ fits = fits
 
   pub truth_view-fits : (e : BoolExpr) → fits_expr (turn_scoping h own t) None (truth_view e) tt → fits_expr (turn_scoping h own t) (Some i) (truth_view e) tt
   truth_view-fits (TruthNode b) fits = tt
@@ -64,10 +57,7 @@ module _ (h : Changes) (own : OwnNames) (t i : Index) where
   truth_view-fits (TruthSame' p a q b) fits = (truth_view-fits a fits.0, (truth_view-fits b fits.1.0, tt))
   truth_view-fits (TruthDiffer' p a q b) fits = (truth_view-fits a fits.0, (truth_view-fits b fits.1.0, tt))
   truth_view-fits (TruthCompare c a b) fits = (int_view-fits a.now fits.0, (int_view-fits b.now fits.1.0, tt))
-  truth_view-fits (Contains r x) fits = fits
-  truth_view-fits (HasIndex d x) fits = fits
-  truth_view-fits (TruthAt slot x at) fits = fits
-  truth_view-fits (TruthReduced' f p e at) fits = fits
+  truth_view-fits _ fits = fits
 
 -- A promoted expression reads the array at its index alone, where each part without a whole array reads no element of it.
 module _ (rank slot : ℕ) (m : Times) where

@@ -8,35 +8,22 @@ use Rattle.dpl_lowered.specs.LoweredExpressions.{Times, Once}
 use Rattle.dpl_memory.specs.Memory.{Variable}
 use Rattle.dpl_nodes.proofs.Items.{int_view-item, truth_view-item, range_view-item, range_item-view, domain_view-item, promoted_int-item, promoted_truth-item}
 use Rattle.dpl_typed.specs.declared.typed.Typed.{Typed}
-use Rattle.dpl_typed.specs.declared.typed.Typed.TheVariants.{Int, Truth, Range, Domain, Array, Ints, Truths, Tuple, Locale, AllLocales, Cell}
+use Rattle.dpl_typed.specs.declared.typed.Typed.TheVariants.{Int, Truth, Range, Domain, Ints, Truths}
 use Rattle.dpl_typed.specs.Typed.{typed_view, typed_item}
 use Rattle.dpl_typed.specs.Stands.{StandsFor, StandsForItem, IsArgument, IsItem}
 
 pub typed_view-item : (m : Times) (t : Typed) → typed_view m t ≡ as_expr (typed_item m t)
-typed_view-item m (Int e) = refl
-typed_view-item m (Truth e) = refl
 typed_view-item m (Range strided e) = range_view-item e.now
-typed_view-item m (Domain rank strided e) = refl
-typed_view-item m (Array k over slot at) = refl
-typed_view-item m (Ints over e) = refl
-typed_view-item m (Truths over e) = refl
-typed_view-item m (Tuple rank slot) = refl
-typed_view-item m Locale = refl
-typed_view-item m AllLocales = refl
-typed_view-item m (Cell k) = refl
+typed_view-item m _ = refl
 
 pub typed_item-view : (m : Times) (t : Typed) → typed_item m t ≡ as_item (typed_view m t)
 typed_item-view m (Int e) = int_view-item e.now
 typed_item-view m (Truth e) = truth_view-item e.now
 typed_item-view m (Range strided e) = range_item-view e.now
 typed_item-view m (Domain rank strided e) = domain_view-item e.now
-typed_item-view m (Array k over slot at) = refl
 typed_item-view m (Ints over e) = promoted_int-item m e.now
 typed_item-view m (Truths over e) = promoted_truth-item m e.now
-typed_item-view m (Tuple rank slot) = refl
-typed_item-view m Locale = refl
-typed_item-view m AllLocales = refl
-typed_item-view m (Cell k) = refl
+typed_item-view m _ = refl
 
 pub stands-same : (r : Option Typed) (f g : Times → ExprTree Variable) → ((m : Times) → f m ≡ g m) → StandsFor r f → StandsFor r g
 stands-same None f g e h = tt

@@ -14,7 +14,7 @@ use Rattle.dpl_language.specs.Phrases.{base_of}
 use Rattle.dpl_language.specs.Expressions.{value_of, item_of, items_of, values_of, answer_of, behind}
 use Rattle.dpl_lowered.specs.Shapes.{nowhere}
 use Rattle.dpl_memory.specs.Memory.{Variable, Memory, in_memory}
-use Rattle.dpl_nodes.specs.declared.tree.RangeExpr.{RangeExpr, Local, Between', Slice', Dimension'}
+use Rattle.dpl_nodes.specs.declared.tree.RangeExpr.{RangeExpr, Local}
 use Rattle.dpl_nodes.specs.declared.tree.DomainExpr.{DomainExpr}
 use Rattle.dpl_frame.specs.declared.fault.Turn.{Turn}
 use Rattle.dpl_frame.specs.Faults.{Halt, Tells, as_range}
@@ -48,9 +48,7 @@ expanded-past at k rs = by (bounds_past_limit (text_expanded k rs)) (too_many (t
 module _ (limits : Limits) (w : Memory) where
   range_view_value : (r : RangeExpr) → value_of limits in_memory (range_view r) None w ≡ item_of limits in_memory (range_item r) None w
   range_view_value (Local slot) = refl
-  range_view_value (Between' p low at dots q high stride) = refl
-  range_view_value (Slice' p r q cut) = refl
-  range_view_value (Dimension' p d n) = refl
+  range_view_value _ = refl
 
   -- what stands behind a range, by its value
   behind_range : (r : RangeExpr) (posts : Posts Variable) (a : Result Value Fault) → item_of limits in_memory (range_item r) None w ≡ a
