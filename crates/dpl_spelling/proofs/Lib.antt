@@ -1,3 +1,4 @@
+pub mod AllRules
 pub mod Rules
 pub mod Below
 pub mod Starts

@@ -10,30 +10,31 @@ use Rattle.dpl_grammar.specs.Reader.{Reader, next_in, many_at}
 use Rattle.dpl_grammar.specs.Rule.{below, many, maybe, ◌⟶◌, ◌⨾◌, ◌∎}
 use Rattle.dpl_grammar.specs.Reading.{first}
 use Rattle.dpl_spelling.specs.Nested.{begins, begins_expression, StatementBelow, PlainBelow, Rule}
-use Rattle.dpl_spelling.specs.Expressions.{after_comma, listed, domain_literal, grouped, simple_base, base, postfix, reduction, red, complement, not, product, neg, sum, relation, equality, conjunction, expression_from, item}
-use Rattle.dpl_spelling.specs.Declarations.{mapped, created, init, declaration, config_declaration}
-use Rattle.dpl_spelling.specs.Statements.{named_statement, output, block, part, condition, consequence, if_else, while_loop, on_locale, loop_head, for_loop, parallel_head, forall_loop, coforall_loop, simple_statement, plain_statement, statement}
-use Rattle.dpl_spelling.specs.Grammar.{module_name, use_line, top, grammar}
+use Rattle.dpl_spelling.specs.Expressions.{item}
+use Rattle.dpl_spelling.specs.Declarations.{mapped, created, init, config_declaration}
+use Rattle.dpl_spelling.specs.Statements.{block, part, if_else, while_loop, on_locale, for_loop, forall_loop, coforall_loop, simple_statement, plain_statement, statement}
+use Rattle.dpl_spelling.specs.Grammar.{use_line, top, grammar}
 use Rattle.dpl_grammar.proofs.Flat.{read_anywhere}
 use Rattle.dpl_spelling.specs.Parts.{begins_simple}
 use Rattle.dpl_spelling.specs.Reading.{at, late_at}
+use Rattle.dpl_spelling.proofs.AllRules.{all_rules}
 
 -- an item with or without a map, as an initial value
 abbrev pub item_init : Rule (InitTree (List ℕ))
 item_init = item ⨾ maybe mapped ∎ ⟶ λ x m. ItemInit x m
 
 first_item_init : first item_init ≡ begins_expression
-unfolding domain_literal grouped simple_base base postfix reduction red complement not product neg sum relation equality conjunction expression_from item
+unfolding all_rules
 first_item_init = refl
 
 pub read_init : (d : ℕ) (ts : List Token) → at init d ts ≡ cond (next_in begins_expression ts) (at item_init d ts) (at created d ts)
-unfolding init
+unfolding all_rules
 read_init d ts = ap (λ (c : Class). cond (next_in c ts) (at item_init d ts) (at created d ts)) first_item_init
 
 -- Statements.
 
 pub read_part : (d : ℕ) (ts : List Token) → late_at part d ts ≡ cond (next_in (sign sign_of.OpenCurly) ts) (at (block Block) d ts) (at (below PlainBelow) d ts)
-unfolding part block
+unfolding all_rules
 read_part d ts = refl
 
 pub read_plain : (d : ℕ) (ts : List Token) → late_at plain_statement d ts ≡
@@ -44,23 +45,23 @@ pub read_plain : (d : ℕ) (ts : List Token) → late_at plain_statement d ts �
     (cond (next_in (keyword word_of.Forall) ts) (late_at forall_loop d ts)
     (cond (next_in (keyword word_of.Coforall) ts) (late_at coforall_loop d ts)
     (late_at on_locale d ts))))))
-unfolding plain_statement simple_statement declaration named_statement output if_else consequence condition while_loop loop_head for_loop parallel_head forall_loop coforall_loop
+unfolding all_rules
 read_plain d ts = refl
 
 -- Programs.
 
 pub read_use_lines : (d : ℕ) (ts : List Token) → at (many use_line) d ts ≡ many_at (keyword word_of.Use) (at use_line d) ts
-unfolding use_line
+unfolding all_rules
 read_use_lines d ts = refl
 
 pub read_uses : (d : ℕ) (ts : List Token) → at (many use_line) d ts ≡ at (many use_line) 0 ts
-unfolding use_line listed after_comma module_name
+unfolding all_rules
 read_uses d ts = ap (λ (r : Reader (List UseTree)). r ts) (read_anywhere grammar (many use_line) refl d 0)
 
 pub read_top : (d : ℕ) (ts : List Token) → at top d ts ≡ cond (next_in (begins StatementBelow) ts) (late_at statement d ts) (at config_declaration d ts)
-unfolding top statement block plain_statement simple_statement declaration named_statement output if_else consequence condition while_loop loop_head for_loop parallel_head forall_loop coforall_loop on_locale
+unfolding all_rules
 read_top d ts = refl
 
 pub read_tops : (d : ℕ) (ts : List Token) → at (many top) d ts ≡ many_at (begins StatementBelow ++ keyword word_of.Config) (at top d) ts
-unfolding top statement block plain_statement simple_statement declaration named_statement output if_else consequence condition while_loop loop_head for_loop parallel_head forall_loop coforall_loop on_locale config_declaration
+unfolding all_rules
 read_tops d ts = refl
