@@ -8,6 +8,8 @@ use Rattle.dpl_grammar.specs.Reader.{Cause, Unexpected, NoRoom, Read, Reader, ne
 use Rattle.dpl_grammar.specs.Laws.{Tells, Reads}
 use Rattle.dpl_grammar.specs.Rule.{Names, Rule, below, Late, Grammar}
 use Rattle.dpl_grammar.specs.Reading.{shape, shape_late, first, first_late, where_room_at, deep_at, read, read_late, faults, late_faults, below_faults}
+use Rattle.dpl_grammar.proofs.Classes.{next_within}
+use Rattle.dpl_grammar.proofs.Faults.{fits}
 use Rattle.dpl_grammar.proofs.Late.{nullable_is}
 use Rattle.dpl_grammar.proofs.Grammars.{reads, reads_late}
 
@@ -64,3 +66,15 @@ module _ {W : Names} (g : Grammar W) (X : Class) (good : (n : W.Name) → below_
 
   pub late_refuses : {T : Type 0} {lets : T → Bool} (a : Late W T lets) → late_faults g X false a ≡ [] → (shape_late a).nullable ≡ false → next_in (first_late a) ts ≡ false → read_late a (deep_at g d) ts ≡ Err (Unexpected, ts)
   late_refuses a right solid h = reads_refuses (nullable_is solid (reads_late g X good a right d)) (reads_late g X good a right (suc d)).first ts h
+
+module _ {W : Names} (g : Grammar W) (X : Class) (good : (n : W.Name) → below_faults g X n ≡ []) (n : W.Name) (ts : List Token) (h : next_in (W.hints.first n) ts ≡ false) where
+  -- a rule that may stand one level deeper refuses what its names lack, where it stands and one level deeper
+
+  pub named_refuses : (d : ℕ) → read_late (g.rule n) (deep_at g d) ts ≡ Err (Unexpected, ts)
+  named_refuses d =
+      let fit = fits g X n (good n) in
+      late_refuses g X good d ts (g.rule n) fit.right fit.solid (next_within (first_late (g.rule n)) (W.hints.first n) ts fit.first h)
+
+  pub below_refuses : (d : ℕ) → read (below n) (deep_at g d) ts ≡ Err (Unexpected, ts)
+  below_refuses zero = rw h refl
+  below_refuses (suc d) = named_refuses d
