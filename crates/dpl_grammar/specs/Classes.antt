@@ -1,10 +1,11 @@
 -- Classes of tokens, by their kinds.
 -- Whether a token is of a class, and how two classes lie to each other, computes.
-use Rattle.std.specs.Prelude.{◌≡◌, ℕ, List, [], ◌∷◌, ◌++◌, Bool, true, false, cond, ◌==◌, Option, Some, None}
+use Rattle.std.specs.Prelude.{◌≡◌, ℕ, zero, suc, List, length, [], ◌∷◌, ◌++◌, Bool, true, false, cond, ◌==◌, Option, Some, None}
 use Rattle.dpl_syntax.specs.declared.place.Place.{Place}
 use Rattle.dpl_syntax.specs.declared.token.Keyword.{Keyword}
 use Rattle.dpl_syntax.specs.declared.token.Keyword.TheVariants.{Coforall, Here, Locales, NumLocales, On, Sync}
 use Rattle.dpl_syntax.specs.declared.token.Contextual.{Contextual}
+use Rattle.dpl_syntax.specs.contracts.token.Contextual.{the_type as contextuals}
 use Rattle.dpl_syntax.specs.declared.token.Sign.{Sign}
 use Rattle.dpl_syntax.specs.declared.token.Token.{Token}
 use Rattle.dpl_grammar.specs.Numbers.{sign_number, keyword_number, contextual_number, kind_number}
@@ -13,9 +14,14 @@ use Rattle.dpl_grammar.specs.Numbers.{sign_number, keyword_number, contextual_nu
 abbrev pub Class : Type 0
 Class = List ℕ
 
+-- so many numbers, from one on
+abbrev numbers_from : ℕ → ℕ → Class
+numbers_from first zero = []
+numbers_from first (suc n) = first ∷ numbers_from (suc first) n
+
 -- every name, contextual words among them
 abbrev pub names : Class
-names = 0 ∷ 200 ∷ 201 ∷ 202 ∷ 203 ∷ 204 ∷ 205 ∷ 206 ∷ 207 ∷ 208 ∷ 209 ∷ 210 ∷ 211 ∷ 212 ∷ 213 ∷ 214 ∷ 215 ∷ 216 ∷ 217 ∷ 218 ∷ 219 ∷ 220 ∷ 221 ∷ 222 ∷ []
+names = 0 ∷ numbers_from 200 (length contextuals.parts)
 
 -- every number
 abbrev pub numbers : Class
