@@ -4,7 +4,7 @@ use Rattle.std.proofs.Common.{◌≡◌, ◌≢◌, Bool, true, false, cond, Lis
 use Rattle.dpl_syntax.specs.declared.place.Place.{Place}
 use Rattle.dpl_syntax.specs.declared.token.Token.{Token}
 use Rattle.dpl_language.specs.Names.{Text}
-use Rattle.dpl_language.specs.Tree.{AfterComma, Infix, Number, TruthWord, Named, LocalesWord, LocaleCount, HereWord, Grouped, DomainLiteral, Prefixed, Reduced, Chain, Postfixed, One, PostTree}
+use Rattle.dpl_language.specs.Tree.{AfterComma, Infix, Word, Number, TruthWord, Named, LocalesWord, LocaleCount, HereWord, Grouped, DomainLiteral, Prefixed, Reduced, Chain, Postfixed, One, PostTree}
 use Rattle.dpl_grammar.specs.Numbers.{kind_number}
 use Rattle.dpl_grammar.specs.Classes.{Class, in_class, task_words, within}
 use Rattle.dpl_grammar.specs.Each.{Each, IfThere}
@@ -13,7 +13,7 @@ use Rattle.dpl_grammar.proofs.Values.{Begins, OfRule, OfParts, OfLate, of_class,
 use Rattle.dpl_grammar.proofs.Values.{of_token as of_any_token, of_deeper as of_any_deeper, of_means as of_any_means}
 use Rattle.dpl_grammar.proofs.Classes.{within_is}
 use Rattle.dpl_spelling.specs.Nested.{Nested, Value, Inside, OneItem, Tuple, Expression, Item, ItemBelow, ExpressionBelow, NegBelow, NotBelow, RedBelow, StartBelow, InsideBelow, StatementBelow, PlainBelow, nested, Rule}
-use Rattle.dpl_spelling.specs.Expressions.{name, number_token, after_comma, listed, more_items, more_exprs, items, exprs, plain_method, cell_read, dim, contains, expand, plain_methods, method, brackets, rounds, dotted, post, domain_literal, grouped, simple_base, base, posts_of, postfixed, postfix, reduction_by, reduction, red, complement, not, Further, links_of, chain_of, further, product_operator, minus, further_factor, product, neg, sum_operator, sum, relation_operator, relation, equality_operator, equality, and_operator, conjunction, or_operator, expression_from, expression, are_in_sum, after_first, closed_or_counted, range_dots, stride, range_end, item}
+use Rattle.dpl_spelling.specs.Expressions.{name, number_token, after_comma, listed, more_items, more_exprs, items, exprs, plain_words, plain_among, cell_read, dim, contains, expand, plain_methods, method, brackets, rounds, dotted, post, domain_literal, grouped, simple_base, base, posts_of, postfixed, postfix, reduction_by, reduction, red, complement, not, Further, links_of, chain_of, further, product_operator, minus, further_factor, product, neg, sum_operator, sum, relation_operator, relation, equality_operator, equality, and_operator, conjunction, or_operator, expression_from, expression, are_in_sum, after_first, closed_or_counted, range_dots, stride, range_end, item}
 use Rattle.dpl_spelling.specs.Spelt.{Level, Products, Sums, Relations, Equalities, Conjunctions, Disjunctions, level_of, AreOfLevel, NameSpelt, PartSpelt, ListSpelt, DotsSpelt, ExprSpelt, ItemSpelt, StrideSpelt, LinksSpelt, PostsSpelt, PostSpelt, MethodSpelt, ItemsSpelt, MoreItemsSpelt, ExprsSpelt, MoreExprsSpelt, StartSpelt, StmtSpelt}
 
 -- of the tokens, and of a token that may be any
@@ -132,14 +132,14 @@ module _ (P : Place → Type 0) (W : Type 0) (g : Deep nested) where
     method_spelt : Is method (MethodSpelt P W)
     unfolding method plain_methods
     method_spelt =
-        of_either dim_spelt (of_either contains_spelt (of_either expand_spelt (of_either read (of_either read
-        (of_either plain (of_either plain (of_either plain (of_either plain (of_either plain (of_either plain (of_either plain plain)))))))))))
+        of_either dim_spelt (of_either contains_spelt (of_either expand_spelt (of_either read (of_either read (plain plain_words.0 plain_words.1)))))
       where
         read : {class : Class} {word : _} → Is (cell_read class word) (MethodSpelt P W)
         read = of_parts (of_part of_token (λ w p. of_deeper (λ k q. of_last of_token (λ l r. (p, q, r)))))
 
-        plain : {class : Class} {word : _} → Is (plain_method class word) (MethodSpelt P W)
-        plain = of_parts (of_last of_token (λ k p. p))
+        plain : (w : Class × Word) (ws : List (Class × Word)) → Is (plain_among w ws) (MethodSpelt P W)
+        plain w [] = of_parts (of_last of_token (λ k p. p))
+        plain w (v ∷ vs) = of_either (of_parts (of_last of_token (λ k p. p))) (plain v vs)
 
     pub post_spelt : Is post (PostSpelt P W)
     unfolding post brackets rounds dotted

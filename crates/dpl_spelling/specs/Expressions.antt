@@ -85,17 +85,28 @@ contains = token (contextual contextual_of.Contains) ⨾ sign sign_of.OpenRound 
 unfoldable pub expand : Rule (MethodTree (List ℕ))
 expand = token (contextual contextual_of.Expand) ⨾ sign sign_of.OpenRound ↓ below ExpressionBelow ⨾ token (sign sign_of.CloseRound) ∎ ⟶ λ w k e l. Expand w.at k.at e l.at
 
+-- the words of methods without arguments: the first, and the others
+abbrev pub plain_words : (Class × Word) × List (Class × Word)
+plain_words = (
+  (contextual contextual_of.Size, Size),
+  (contextual contextual_of.First, First)
+      ∷ (contextual contextual_of.Last, Last)
+      ∷ (contextual contextual_of.Low, Low)
+      ∷ (contextual contextual_of.High, High)
+      ∷ (contextual contextual_of.LowBound, LowBound)
+      ∷ (keyword word_of.Domain, DomainOf)
+      ∷ (contextual contextual_of.Id, Id)
+      ∷ [],
+)
+
+-- the one word, or one of the others
+abbrev pub plain_among : Class × Word → List (Class × Word) → Rule (MethodTree (List ℕ))
+plain_among w [] = plain_method w.0 w.1
+plain_among w (v ∷ vs) = either (plain_method w.0 w.1) (plain_among v vs)
+
 -- "size" | "first" | "last" | "low" | "high" | "lowBound" | "domain" | "id"
 unfoldable pub plain_methods : Rule (MethodTree (List ℕ))
-plain_methods =
-    either (plain_method (contextual contextual_of.Size) Size)
-    (either (plain_method (contextual contextual_of.First) First)
-    (either (plain_method (contextual contextual_of.Last) Last)
-    (either (plain_method (contextual contextual_of.Low) Low)
-    (either (plain_method (contextual contextual_of.High) High)
-    (either (plain_method (contextual contextual_of.LowBound) LowBound)
-    (either (plain_method (keyword word_of.Domain) DomainOf)
-    (plain_method (contextual contextual_of.Id) Id)))))))
+plain_methods = plain_among plain_words.0 plain_words.1
 
 -- method = "dim" .. | "contains" .. | "expand" .. | ("readFE" | "readFF") "(" ")" | "size" | "first" | "last" | "low" | "high" | "lowBound" | "domain" | "id"
 unfoldable pub method : Rule (MethodTree (List ℕ))
