@@ -46,14 +46,16 @@ no_special u other s e =
     let same : bytes_eq (special_text (first_of_text SPECIALS u)) u ≡ true = bytes_eq-same (special_text (first_of_text SPECIALS u)) u text in
     absurd (cc (other, same))
 
--- where a word stands in the lexer's table
+-- the place of a spelling in a table of words: how many stand before the first that is spelled so
 abbrev place_of : List Special → List ℕ → ℕ
 place_of [] u = 0
 place_of (s ∷ ss) u = cond (bytes_eq (special_text s) u) 0 (suc (place_of ss u))
 
+-- a word's place in the lexer's table. Since it computes, each word is shown to stand there, in the part where the lexer looks for it
 index : Special → ℕ
 index s = place_of SPECIALS (special_text s)
 
+-- the table has the word at its place
 at_index : (s d : Special) → get_or SPECIALS (index s) d ≡ s
 unfolding index keyword_text contextual_text
 at_index (Contextual BlockDistWord) d = refl
