@@ -12,9 +12,9 @@ use Rattle.dpl_grammar.specs.Rule.{Parts, Deep, Whole, Begun, token, below, mean
 use Rattle.dpl_grammar.proofs.Values.{Begins, OfRule, OfParts, OfLate, of_class, of_weaker, of_either, of_many, of_run, of_complete, of_part, of_parts, of_closed, of_opened, of_choice, of_ended, of_done, of_last, of_maybe}
 use Rattle.dpl_grammar.proofs.Values.{of_token as of_any_token, of_deeper as of_any_deeper, of_means as of_any_means}
 use Rattle.dpl_grammar.proofs.Classes.{within_is}
-use Rattle.dpl_spelling.specs.Nested.{Nested, Value, Inside, OneItem, Tuple, Expression, Item, ItemBelow, ExpressionBelow, NegBelow, NotBelow, RedBelow, StartBelow, InsideBelow, StatementBelow, PlainBelow, nested, Rule}
+use Rattle.dpl_spelling.specs.Nested.{Nested, Value, Inside, OneItem, Tuple, Expression, Item, Statement, ItemBelow, ExpressionBelow, NegBelow, NotBelow, RedBelow, StartBelow, InsideBelow, StatementBelow, PlainBelow, nested, Rule}
 use Rattle.dpl_spelling.specs.Expressions.{name, number_token, after_comma, listed, more_items, more_exprs, items, exprs, plain_words, plain_among, cell_read, dim, contains, expand, plain_methods, method, brackets, rounds, dotted, post, domain_literal, grouped, simple_base, base, posts_of, postfixed, postfix, reduction_by, reduction, red, complement, not, Further, links_of, chain_of, further, product_operator, minus, further_factor, product, neg, sum_operator, sum, relation_operator, relation, equality_operator, equality, and_operator, conjunction, or_operator, expression_from, expression, are_in_sum, after_first, closed_or_counted, range_dots, stride, range_end, item}
-use Rattle.dpl_spelling.specs.Spelt.{Level, Products, Sums, Relations, Equalities, Conjunctions, Disjunctions, level_of, AreOfLevel, NameSpelt, PartSpelt, ListSpelt, DotsSpelt, ExprSpelt, ItemSpelt, StrideSpelt, LinksSpelt, PostsSpelt, PostSpelt, MethodSpelt, ItemsSpelt, MoreItemsSpelt, ExprsSpelt, MoreExprsSpelt, StartSpelt, StmtSpelt}
+use Rattle.dpl_spelling.specs.Spelt.{Level, Products, Sums, Relations, Equalities, Conjunctions, Disjunctions, level_of, AreOfLevel, NameSpelt, PartSpelt, ListSpelt, DotsSpelt, ExprSpelt, ItemSpelt, StrideSpelt, LinksSpelt, PostsSpelt, PostSpelt, MethodSpelt, ItemsSpelt, MoreItemsSpelt, ExprsSpelt, MoreExprsSpelt, StartSpelt, StmtSpelt, IsInner}
 
 -- of the tokens, and of a token that may be any
 abbrev pub TokenSpelt : (Place → Type 0) → Type 0 → Token → Type 0
@@ -27,6 +27,10 @@ abbrev pub InsideSpelt : (Place → Type 0) → Type 0 → Inside → Type 0
 InsideSpelt P W (OneItem x) = ItemSpelt P W x
 InsideSpelt P W (Tuple xs) = ListSpelt P W (ExprSpelt P W) xs × (xs.others ≢ [])
 
+-- of a statement that stands inside of another
+abbrev pub InnerSpelt : (Place → Type 0) → Type 0 → Statement → Type 0
+InnerSpelt P W t = StmtSpelt P W t × IsInner t
+
 -- of the value of each rule that may stand one level deeper
 abbrev pub NestedSpelt : (Place → Type 0) → Type 0 → (n : Nested) → Value n → Type 0
 NestedSpelt P W ItemBelow x = ItemSpelt P W x
@@ -36,8 +40,8 @@ NestedSpelt P W NotBelow x = ExprSpelt P W x
 NestedSpelt P W RedBelow x = ExprSpelt P W x
 NestedSpelt P W StartBelow x = StartSpelt P W x
 NestedSpelt P W InsideBelow x = InsideSpelt P W x
-NestedSpelt P W StatementBelow x = StmtSpelt P W x
-NestedSpelt P W PlainBelow x = StmtSpelt P W x
+NestedSpelt P W StatementBelow x = InnerSpelt P W x
+NestedSpelt P W PlainBelow x = InnerSpelt P W x
 
 module _ (P : Place → Type 0) (W : Type 0) (g : Deep nested) where
   abbrev pub Is : {T : Type 0} → Rule T → (T → Type 0) → Type 0

@@ -1,6 +1,6 @@
 -- Each tree that tokens spell is as specs/Spelt.antt says, rule by rule of the grammar: declarations, statements and programs.
 -- Then all rules that may stand one level deeper, by the number of levels.
-use Rattle.std.proofs.Common.{ℕ, zero, suc, Bool, true, false, cond, bytes_eq, List, [], ◌∷◌, Option, Some, None, refl}
+use Rattle.std.proofs.Common.{◌≡◌, ℕ, zero, suc, Bool, true, false, cond, bytes_eq, List, [], ◌∷◌, Option, Some, None, refl}
 use Rattle.dpl_syntax.specs.declared.place.Place.{Place}
 use Rattle.dpl_syntax.specs.declared.token.Token.{Token}
 use Rattle.dpl_syntax.specs.declared.token.Keyword.{Keyword}
@@ -8,21 +8,21 @@ use Rattle.dpl_syntax.specs.declared.token.Keyword.TheVariants as word_of
 use Rattle.dpl_syntax.specs.declared.token.Contextual.{Contextual}
 use Rattle.dpl_syntax.specs.Tokens.{contextual_text}
 use Rattle.dpl_language.specs.Names.{Text}
-use Rattle.dpl_language.specs.Tree.{Placed, Op, Number, TruthWord, Named, LocalesWord, LocaleCount, HereWord, Grouped, DomainLiteral, Prefixed, Reduced, Chain, Postfixed, One, RangeItem, StartTree, StartExpr, StartTuple, MapTree, Stmts}
+use Rattle.dpl_language.specs.Tree.{Placed, Op, Block, Number, TruthWord, Named, LocalesWord, LocaleCount, HereWord, Grouped, DomainLiteral, Prefixed, Reduced, Chain, Postfixed, One, RangeItem, StartTree, StartExpr, StartTuple, MapTree, Stmts}
 use Rattle.dpl_grammar.specs.Classes.{Class}
 use Rattle.dpl_grammar.specs.Each.{Each, IfThere}
 use Rattle.dpl_grammar.specs.Rule.{Parts, Deep, Whole, Begun, token, below, means, ◌↓◌, deep}
-use Rattle.dpl_grammar.proofs.Values.{Begins, never_holds, OfLate, of_any, of_either, of_many, of_run, of_complete, of_whole, of_part, of_parts, of_closed, of_choice, of_ended, of_dangling, of_done, of_last, of_maybe, of_lower, OfParts}
+use Rattle.dpl_grammar.proofs.Values.{Begins, never_holds, OfLate, of_any, of_weaker, of_either, of_many, of_run, of_complete, of_whole, of_part, of_parts, of_closed, of_choice, of_ended, of_dangling, of_done, of_last, of_maybe, of_lower, OfParts}
 use Rattle.dpl_grammar.proofs.Values.{of_token as of_any_token}
 use Rattle.dpl_spelling.specs.Nested.{Nested, Inside, OneItem, Tuple, Expression, Item, Statement, ItemBelow, ExpressionBelow, NegBelow, NotBelow, RedBelow, StartBelow, InsideBelow, StatementBelow, PlainBelow, nested, Rule, Late}
 use Rattle.dpl_spelling.specs.Expressions.{simple_base, base}
 use Rattle.dpl_spelling.specs.Declarations.{if_there, after_inside, tuple_end, inside, Bracket, bracket, holding, after_bracket, expression_end, start, Argument, nameless, after_argument, argument_end, item_name, start_name, box_argument, start_argument, block_map, cyclic_map, block_cyclic_map, map, mapped, scalar_kind, sync_type, domain_type, array_type, declared_type, typed, create_word, created, init, initial, Declared, declared, declare_end, declaration, config_declaration}
-use Rattle.dpl_spelling.specs.Statements.{element, target_end, assign_by, assign_sign, assignment_end, write_call, read_call, reset_call, cell_call, call_end, named_statement, argument, output, stmts_of, block, part, body, Condition, condition, Conditional, consequence, alternative, if_else, while_loop, on_locale, variables, reduce_operator, intent, with_intents, LoopHead, loop_head, for_loop, ParallelHead, parallel_head, forall_loop, coforall_loop, simple_statement, plain_statement, statement}
+use Rattle.dpl_spelling.specs.Statements.{element, target_end, assign_by, assign_sign, assignment_end, write_call, read_call, reset_call, cell_call, call_end, named_statement, argument, output, stmts_of, block, part, body, Condition, condition, Conditional, consequence, Otherwise, alternative, if_else, while_loop, on_locale, variables, reduce_operator, intent, with_intents, LoopHead, loop_head, for_loop, ParallelHead, parallel_head, forall_loop, coforall_loop, simple_statement, plain_statement, statement}
 use Rattle.dpl_spelling.specs.Grammar.{Program, top, tops, program, grammar}
 use Rattle.dpl_spelling.specs.Theorem.{Spells}
 use Rattle.dpl_language.specs.Spelled.{SaysType}
-use Rattle.dpl_spelling.specs.Spelt.{Products, Sums, Relations, Equalities, Conjunctions, Disjunctions, NameSpelt, ExprSpelt, ItemSpelt, ArgumentNameSpelt, StartSpelt, MapSpelt, MappedSpelt, TypedSpelt, InitialSpelt, ArgumentSpelt, IntentSpelt, WithSpelt, VariablesSpelt, TargetSpelt, SignSpelt, CallSpelt, StmtSpelt, BodySpelt, StmtsSpelt}
-use Rattle.dpl_spelling.proofs.Spelt.{TokenSpelt, PlaceSpelt, InsideSpelt, NestedSpelt, Is, name_spelt, number_token_spelt, after_comma_spelt, listed_spelt, postfixed_spelt, chain_spelt, items_spelt, exprs_spelt, post_spelt, simple_base_spelt, base_spelt, red_spelt, not_spelt, further_spelt, sum_operator_spelt, relation_operator_spelt, equality_operator_spelt, and_operator_spelt, or_operator_spelt, further_factor_spelt, neg_spelt, sum_spelt, relation_spelt, equality_spelt, conjunction_spelt, expression_from_spelt, expression_spelt, item_spelt}
+use Rattle.dpl_spelling.specs.Spelt.{IsInner, AreInner, Products, Sums, Relations, Equalities, Conjunctions, Disjunctions, NameSpelt, ExprSpelt, ItemSpelt, ArgumentNameSpelt, StartSpelt, MapSpelt, MappedSpelt, TypedSpelt, InitialSpelt, ArgumentSpelt, IntentSpelt, WithSpelt, VariablesSpelt, TargetSpelt, SignSpelt, CallSpelt, StmtSpelt, BodySpelt, StmtsSpelt}
+use Rattle.dpl_spelling.proofs.Spelt.{TokenSpelt, PlaceSpelt, InsideSpelt, InnerSpelt, NestedSpelt, Is, name_spelt, number_token_spelt, after_comma_spelt, listed_spelt, postfixed_spelt, chain_spelt, items_spelt, exprs_spelt, post_spelt, simple_base_spelt, base_spelt, red_spelt, not_spelt, further_spelt, sum_operator_spelt, relation_operator_spelt, equality_operator_spelt, and_operator_spelt, or_operator_spelt, further_factor_spelt, neg_spelt, sum_spelt, relation_spelt, equality_spelt, conjunction_spelt, expression_from_spelt, expression_spelt, item_spelt}
 use Rattle.dpl_spelling.proofs.Spelt.{of_token as of_token_in, of_task_word, of_deeper as of_deeper_in, of_means as of_means_in}
 
 if_there_each : {A : Type 0} (Q : A → Type 0) (z : Option A) → IfThere Q z → Each Q (if_there z)
@@ -198,22 +198,22 @@ module _ (P : Place → Type 0) (W : Type 0) (g : Deep nested) (inner : (n : Nes
   declared_spelt = of_either (of_parts (of_part typed_spelt (λ t p. of_last (of_maybe initial_spelt) (λ i q. (tt, p, q))))) (of_parts (of_last initial_spelt (λ i p. (tt, tt, p))))
 
   abbrev MakesDeclaration : (Option Place → Place × Bool → Statement) → Type 0
-  MakesDeclaration make = (config : Option Place) (w : Place × Bool) → IfThere P config → P w.0 → StmtSpelt P W (make config w)
+  MakesDeclaration make = (config : Option Place) (w : Place × Bool) → IfThere P config → P w.0 → StmtSpelt P W (make config w) × (config ≡ None → IsInner (make config w))
 
   declare_end_spelt : Is P W g declare_end MakesDeclaration
   unfolding declare_end
-  declare_end_spelt = of_parts (of_part (name_spelt P W g) (λ x p. of_part declared_spelt (λ d q. of_last of_token (λ k r config w s t. (q.0, s, t, p, q.1, q.2, r)))))
+  declare_end_spelt = of_parts (of_part (name_spelt P W g) (λ x p. of_part declared_spelt (λ d q. of_last of_token (λ k r config w s t. ((q.0, s, t, p, q.1, q.2, r), λ none. none)))))
 
-  declaration_spelt : Is P W g declaration (StmtSpelt P W)
+  declaration_spelt : Is P W g declaration (InnerSpelt P W)
   unfolding declaration
-  declaration_spelt = of_parts (of_part (of_either word word) (λ w p. of_last declare_end_spelt (λ make h. h None w tt p)))
+  declaration_spelt = of_parts (of_part (of_either word word) (λ w p. of_last declare_end_spelt (λ make h. ((h None w tt p).0, (h None w tt p).1 refl))))
     where
       word : {class : Class} {b : Bool} → Is P W g (means class b) (λ w. P w.0)
       word = of_means (λ k p. p)
 
   pub config_declaration_spelt : Is P W g config_declaration (StmtSpelt P W)
   unfolding config_declaration
-  config_declaration_spelt = of_parts (of_part of_token (λ c p. of_part (of_means {Q = λ w. P w.0} (λ k q. q)) (λ w q. of_last declare_end_spelt (λ make h. h (Some c.at) w p q))))
+  config_declaration_spelt = of_parts (of_part of_token (λ c p. of_part (of_means {Q = λ w. P w.0} (λ k q. q)) (λ w q. of_last declare_end_spelt (λ make h. (h (Some c.at) w p q).0))))
 
   -- STATEMENTS THAT BEGIN WITH A NAME
   element_spelt : {shape : _} {from upto : Class} → Is P W g (element shape from upto) (λ make. (x : Placed Text) → NameSpelt P W x → TargetSpelt P W (make x))
@@ -243,14 +243,14 @@ module _ (P : Place → Type 0) (W : Type 0) (g : Deep nested) (inner : (n : Nes
       read = of_parts (of_part of_token (λ w p. of_deeper (λ k q. of_last of_token (λ l r. (p, q, r)))))
 
   abbrev MakesNamed : (Placed Text → Statement) → Type 0
-  MakesNamed make = (x : Placed Text) → NameSpelt P W x → StmtSpelt P W (make x)
+  MakesNamed make = (x : Placed Text) → NameSpelt P W x → InnerSpelt P W (make x)
 
-  named_statement_spelt : Is P W g named_statement (StmtSpelt P W)
+  named_statement_spelt : Is P W g named_statement (InnerSpelt P W)
   unfolding named_statement call_end assignment_end
   named_statement_spelt =
       of_parts (of_part (name_spelt P W g) (λ x p. of_last (of_either {Q = MakesNamed}
-      (of_parts (of_part of_token (λ d q. of_part cell_call_spelt (λ c r. of_last of_token (λ k s x t. (t, q, r, s))))))
-      (of_parts (of_part target_end_spelt (λ make h. of_part assign_sign_spelt (λ s q. of_part (item_spelt P W g inner) (λ i r. of_last of_token (λ k t x u. (h x u, q, r, t))))))))
+      (of_parts (of_part of_token (λ d q. of_part cell_call_spelt (λ c r. of_last of_token (λ k s x t. ((t, q, r, s), tt))))))
+      (of_parts (of_part target_end_spelt (λ make h. of_part assign_sign_spelt (λ s q. of_part (item_spelt P W g inner) (λ i r. of_last of_token (λ k t x u. ((h x u, q, r, t), tt))))))))
       (λ make h. h x p)))
 
   -- OUTPUT
@@ -258,32 +258,39 @@ module _ (P : Place → Type 0) (W : Type 0) (g : Deep nested) (inner : (n : Nes
   unfolding argument
   argument_spelt = of_either (of_parts (of_last of_token (λ k p. p))) (of_parts (of_last (inner ExpressionBelow) (λ e p. p)))
 
-  output_spelt : Is P W g output (StmtSpelt P W)
+  output_spelt : Is P W g output (InnerSpelt P W)
   unfolding output
   output_spelt =
       of_parts (of_part (of_either {Q = λ w. P w.0} (of_means (λ k p. p)) (of_means (λ k p. p))) (λ w p. of_deeper (λ k q.
-      of_part (of_maybe (listed_spelt P W g argument_spelt)) (λ xs r. of_part of_token (λ l s. of_last of_token (λ t u. (p, q, r, s, u)))))))
+      of_part (of_maybe (listed_spelt P W g argument_spelt)) (λ xs r. of_part of_token (λ l s. of_last of_token (λ t u. ((p, q, r, s, u), tt)))))))
 
   -- BODIES
-  stmts_spelt : (ss : List Statement) → Each (StmtSpelt P W) ss → StmtsSpelt P W (stmts_of ss)
-  stmts_spelt [] h = tt
-  stmts_spelt (s ∷ ss) h = (h.0, stmts_spelt ss h.1)
+  inner_spelt : (ss : List Statement) → Each (InnerSpelt P W) ss → StmtsSpelt P W (stmts_of ss)
+  inner_spelt [] h = tt
+  inner_spelt (s ∷ ss) h = (h.0.0, inner_spelt ss h.1)
 
-  block_spelt : {T : Type 0} (make : Place → Stmts Text → Place → T) (Q : T → Type 0) → ((from : Place) (ss : Stmts Text) (upto : Place) → P from → StmtsSpelt P W ss → P upto → Q (make from ss upto))
+  are_inner : (ss : List Statement) → Each (InnerSpelt P W) ss → AreInner (stmts_of ss)
+  are_inner [] h = tt
+  are_inner (s ∷ ss) h = (h.0.1, are_inner ss h.1)
+
+  block_spelt : {T : Type 0} (make : Place → Stmts Text → Place → T) (Q : T → Type 0) → ((from : Place) (ss : Stmts Text) (upto : Place) → P from → StmtsSpelt P W ss → P upto → AreInner ss → Q (make from ss upto))
       → Is P W g (block make) Q
   unfolding block
-  block_spelt make Q h = of_parts (of_deeper (λ k p. of_part (of_many (inner StatementBelow)) (λ ss q. of_last of_token (λ l r. h k.at (stmts_of ss) l.at p (stmts_spelt ss q) r))))
+  block_spelt make Q h = of_parts (of_deeper (λ k p. of_part (of_many (inner StatementBelow)) (λ ss q. of_last of_token (λ l r. h k.at (stmts_of ss) l.at p (inner_spelt ss q) r (are_inner ss q)))))
 
   abbrev IsLate : {T : Type 0} {lets : T → Bool} → Late T lets → (T → Type 0) → Type 0
   IsLate a Q = OfLate g (TokenSpelt P W) a Q
 
-  part_spelt : IsLate part (StmtSpelt P W)
+  whole_block_spelt : Is P W g (block Block) (InnerSpelt P W)
+  whole_block_spelt = block_spelt _ _ (λ from ss upto p q r a. ((p, q, r, a), tt))
+
+  part_spelt : IsLate part (InnerSpelt P W)
   unfolding part
-  part_spelt = of_choice {Q = StmtSpelt P W} (of_closed (block_spelt _ _ (λ from ss upto p q r. (p, q, r)))) (of_lower PlainBelow (StmtSpelt P W) (inner PlainBelow))
+  part_spelt = of_choice {Q = InnerSpelt P W} (of_closed whole_block_spelt) (of_lower PlainBelow (InnerSpelt P W) (inner PlainBelow))
 
   body_spelt : (word : Keyword) → IsLate (body word) (BodySpelt P W)
   unfolding body
-  body_spelt word = of_choice {Q = BodySpelt P W} (of_ended (PlaceSpelt P) (StmtSpelt P W) of_token part_spelt (λ k s p q. (p, q))) (of_closed (block_spelt _ _ (λ from ss upto p q r. (p, q, r))))
+  body_spelt word = of_choice {Q = BodySpelt P W} (of_ended (PlaceSpelt P) (InnerSpelt P W) of_token part_spelt (λ k s p q. (p, q.0, q.1))) (of_closed (block_spelt _ _ (λ from ss upto p q r a. (p, q, r, a))))
 
   -- STATEMENTS WITH BODIES
   abbrev ConditionSpelt : Condition → Type 0
@@ -307,23 +314,26 @@ module _ (P : Place → Type 0) (W : Type 0) (g : Deep nested) (inner : (n : Nes
   unfolding consequence
   consequence_spelt = of_ended ConditionSpelt (BodySpelt P W) (condition_spelt _) (body_spelt _) (λ c b p q. (p, q))
 
-  alternative_spelt : IsLate alternative (λ o. P o.at × StmtSpelt P W o.stmt)
-  unfolding alternative
-  alternative_spelt = of_ended (PlaceSpelt P) (StmtSpelt P W) of_token part_spelt (λ k s p q. (p, q))
+  abbrev OtherwiseSpelt : Otherwise → Type 0
+  OtherwiseSpelt o = P o.at × StmtSpelt P W o.stmt × IsInner o.stmt
 
-  if_else_spelt : IsLate if_else (StmtSpelt P W)
+  alternative_spelt : IsLate alternative OtherwiseSpelt
+  unfolding alternative
+  alternative_spelt = of_ended (PlaceSpelt P) (InnerSpelt P W) of_token part_spelt (λ k s p q. (p, q.0, q.1))
+
+  if_else_spelt : IsLate if_else (InnerSpelt P W)
   unfolding if_else
   if_else_spelt =
-      of_dangling ConditionalSpelt (λ o. P o.at × StmtSpelt P W o.stmt) consequence_spelt alternative_spelt
-      (λ c p. (p.0.0, p.0.1, p.1, tt)) (λ c o p q. (p.0.0, p.0.1, p.1, q))
+      of_dangling ConditionalSpelt OtherwiseSpelt consequence_spelt alternative_spelt
+      (λ c p. ((p.0.0, p.0.1, p.1, tt), tt)) (λ c o p q. ((p.0.0, p.0.1, p.1, q), tt))
 
-  while_loop_spelt : IsLate while_loop (StmtSpelt P W)
+  while_loop_spelt : IsLate while_loop (InnerSpelt P W)
   unfolding while_loop
-  while_loop_spelt = of_ended ConditionSpelt (BodySpelt P W) (condition_spelt _) (body_spelt _) (λ c b p q. (p.0, p.1, q, tt))
+  while_loop_spelt = of_ended ConditionSpelt (BodySpelt P W) (condition_spelt _) (body_spelt _) (λ c b p q. ((p.0, p.1, q, tt), tt))
 
-  on_locale_spelt : IsLate on_locale (StmtSpelt P W)
+  on_locale_spelt : IsLate on_locale (InnerSpelt P W)
   unfolding on_locale
-  on_locale_spelt = of_ended TaskConditionSpelt (BodySpelt P W) task_condition_spelt (body_spelt _) (λ c b p q. (p.0, p.1, q, p.2))
+  on_locale_spelt = of_ended TaskConditionSpelt (BodySpelt P W) task_condition_spelt (body_spelt _) (λ c b p q. ((p.0, p.1, q, p.2), tt))
 
   -- LOOPS
   variables_spelt : Is P W g variables (VariablesSpelt P W)
@@ -331,7 +341,7 @@ module _ (P : Place → Type 0) (W : Type 0) (g : Deep nested) (inner : (n : Nes
   variables_spelt =
       of_either (of_parts (of_last (name_spelt P W g) (λ x p. p)))
       (of_parts (of_deeper (λ k p. of_part (name_spelt P W g) (λ x q. of_part (after_comma_spelt P W g (name_spelt P W g)) (λ y r.
-      of_part (of_maybe (after_comma_spelt P W g (name_spelt P W g))) (λ z s. of_last of_token (λ l t. (p, (q, (r, if_there_each _ z s)), t))))))))
+      of_part (of_maybe (after_comma_spelt P W g (name_spelt P W g))) (λ z s. of_last of_token (λ l t. (p, (q, (r, if_there_each _ z s)), t, λ none. absurd cc))))))))
 
   one_operator_spelt : {class : Class} {op : Op} → Is P W g (means class op) (λ o. P o.0)
   one_operator_spelt = of_means (λ k p. p)
@@ -365,9 +375,9 @@ module _ (P : Place → Type 0) (W : Type 0) (g : Deep nested) (inner : (n : Nes
   unfolding loop_head
   tasks_head_spelt = of_parts (of_part (of_task_word P W g refl) (λ k p. of_part variables_spelt (λ xs q. of_part of_token (λ l r. of_last (item_spelt P W g inner) (λ i s. ((p.0, q, r, s), p.1))))))
 
-  for_loop_spelt : IsLate for_loop (StmtSpelt P W)
+  for_loop_spelt : IsLate for_loop (InnerSpelt P W)
   unfolding for_loop
-  for_loop_spelt = of_ended LoopSpelt (BodySpelt P W) (loop_head_spelt _) (body_spelt _) (λ h b p q. (p.0, p.1, p.2, p.3, tt, q, tt))
+  for_loop_spelt = of_ended LoopSpelt (BodySpelt P W) (loop_head_spelt _) (body_spelt _) (λ h b p q. ((p.0, p.1, p.2, p.3, tt, q, tt), tt))
 
   abbrev ParallelSpelt : ParallelHead → Type 0
   ParallelSpelt l = LoopSpelt l.loop × IfThere (WithSpelt P W) l.with
@@ -383,27 +393,27 @@ module _ (P : Place → Type 0) (W : Type 0) (g : Deep nested) (inner : (n : Nes
   unfolding parallel_head
   coforall_head_spelt = of_parts (of_part tasks_head_spelt (λ l p. of_last (of_maybe with_intents_spelt) (λ w q. (p, q))))
 
-  forall_loop_spelt : IsLate forall_loop (StmtSpelt P W)
+  forall_loop_spelt : IsLate forall_loop (InnerSpelt P W)
   unfolding forall_loop
-  forall_loop_spelt = of_ended ParallelSpelt (BodySpelt P W) (parallel_head_spelt _) (body_spelt _) (λ h b p q. (p.0.0, p.0.1, p.0.2, p.0.3, p.1, q, tt))
+  forall_loop_spelt = of_ended ParallelSpelt (BodySpelt P W) (parallel_head_spelt _) (body_spelt _) (λ h b p q. ((p.0.0, p.0.1, p.0.2, p.0.3, p.1, q, tt), tt))
 
-  coforall_loop_spelt : IsLate coforall_loop (StmtSpelt P W)
+  coforall_loop_spelt : IsLate coforall_loop (InnerSpelt P W)
   unfolding coforall_loop
-  coforall_loop_spelt = of_ended CoforallSpelt (BodySpelt P W) coforall_head_spelt (body_spelt _) (λ h b p q. (p.0.0.0, p.0.0.1, p.0.0.2, p.0.0.3, p.1, q, p.0.1))
+  coforall_loop_spelt = of_ended CoforallSpelt (BodySpelt P W) coforall_head_spelt (body_spelt _) (λ h b p q. ((p.0.0.0, p.0.0.1, p.0.0.2, p.0.0.3, p.1, q, p.0.1), tt))
 
   -- ALL STATEMENTS
-  simple_statement_spelt : Is P W g simple_statement (StmtSpelt P W)
+  simple_statement_spelt : Is P W g simple_statement (InnerSpelt P W)
   unfolding simple_statement
-  simple_statement_spelt = of_either declaration_spelt (of_either (of_parts (of_last of_token (λ k p. p))) (of_either named_statement_spelt output_spelt))
+  simple_statement_spelt = of_either declaration_spelt (of_either (of_parts (of_last of_token (λ k p. (p, tt)))) (of_either named_statement_spelt output_spelt))
 
-  pub plain_statement_spelt : IsLate plain_statement (StmtSpelt P W)
+  pub plain_statement_spelt : IsLate plain_statement (InnerSpelt P W)
   unfolding plain_statement
   plain_statement_spelt =
       of_choice (of_closed simple_statement_spelt) (of_choice if_else_spelt (of_choice while_loop_spelt (of_choice for_loop_spelt (of_choice forall_loop_spelt (of_choice coforall_loop_spelt on_locale_spelt)))))
 
-  pub statement_spelt : IsLate statement (StmtSpelt P W)
+  pub statement_spelt : IsLate statement (InnerSpelt P W)
   unfolding statement
-  statement_spelt = of_choice {Q = StmtSpelt P W} (of_closed (block_spelt _ _ (λ from ss upto p q r. (p, q, r)))) plain_statement_spelt
+  statement_spelt = of_choice {Q = InnerSpelt P W} (of_closed whole_block_spelt) plain_statement_spelt
 
 module _ (P : Place → Type 0) (W : Type 0) where
   -- one level deeper
@@ -424,14 +434,18 @@ module _ (P : Place → Type 0) (W : Type 0) where
   below_spelt (suc d) n = deeper_spelt d (below_spelt d) n
 
   -- the statements of a program
+  stmts_spelt : (ss : List Statement) → Each (StmtSpelt P W) ss → StmtsSpelt P W (stmts_of ss)
+  stmts_spelt [] h = tt
+  stmts_spelt (s ∷ ss) h = (h.0, stmts_spelt ss h.1)
+
   module _ (d : ℕ) where
     top_spelt : Is P W (deep grammar d) top (StmtSpelt P W)
     unfolding top
-    top_spelt = of_either (of_whole (statement_spelt P W (deep grammar d) (below_spelt d))) (config_declaration_spelt P W (deep grammar d) (below_spelt d))
+    top_spelt = of_either (of_weaker (of_whole (statement_spelt P W (deep grammar d) (below_spelt d))) (λ t h. h.0)) (config_declaration_spelt P W (deep grammar d) (below_spelt d))
 
     tops_spelt : Is P W (deep grammar d) tops (λ make. (at : Place) → StmtsSpelt P W (make at).stmts)
     unfolding tops
-    tops_spelt = of_parts (of_part of_any (λ us p. of_last (of_many top_spelt) (λ ss q at. stmts_spelt P W (deep grammar d) (below_spelt d) ss q)))
+    tops_spelt = of_parts (of_part of_any (λ us p. of_last (of_many top_spelt) (λ ss q at. stmts_spelt ss q)))
 
     program_spelt : Is P W (deep grammar d) program (λ t. StmtsSpelt P W t.stmts)
     unfolding program

@@ -1,7 +1,8 @@
 -- What is true of each tree that tokens spell: the operators of a chain are of one level, something stands behind each base that
--- isn't alone, and a tuple that a map starts with has two or more; of the place of each of its tokens P is true, where it is
--- true of the places of the tokens; and W is true where it has one of the words of tasks, where that follows for the tokens.
-use Rattle.std.specs.Prelude.{◌≡◌, ◌≢◌, []}
+-- isn't alone, a tuple that a map starts with has two or more, as a loop's bracketed variables have, and no statement inside of
+-- another is a `config const`; of the place of each of its tokens P is true, where it is true of the places of the tokens; and
+-- W is true where it has one of the words of tasks, where that follows for the tokens.
+use Rattle.std.specs.Prelude.{◌≡◌, ◌≢◌, [], None}
 use Rattle.dpl_syntax.specs.declared.place.Place.{Place}
 use Rattle.dpl_language.specs.Spelled.{HasPosts, SaysType}
 use Rattle.dpl_language.specs.Names.{Text}
@@ -43,6 +44,15 @@ AreOfLevel l (Link at op e rest) = (level_of op ≡ l) × AreOfLevel l rest
 abbrev pub IsOneLevel : {N : Type 0} → Links N → Type 0
 IsOneLevel NoLinks = ⊥
 IsOneLevel (Link at op e rest) = AreOfLevel (level_of op) rest
+
+-- a statement that stands inside of another, and those of a block: no `config const`
+abbrev pub IsInner : StmtTree Text → Type 0
+IsInner (Declare d) = d.config ≡ None
+IsInner _ = Unit {0}
+
+abbrev pub AreInner : Stmts Text → Type 0
+AreInner NoStmts = Unit {0}
+AreInner (Then t rest) = IsInner t × AreInner rest
 
 module _ (P : Place → Type 0) (W : Type 0) where
   abbrev pub NameSpelt : Placed Text → Type 0
@@ -174,7 +184,7 @@ module _ (P : Place → Type 0) (W : Type 0) where
 
   abbrev pub VariablesSpelt : VariablesTree Text → Type 0
   VariablesSpelt (OneVariable x) = NameSpelt x
-  VariablesSpelt (ManyVariables from xs upto) = P from × ListSpelt NameSpelt xs × P upto
+  VariablesSpelt (ManyVariables from xs upto) = P from × ListSpelt NameSpelt xs × P upto × (xs.others ≢ [])
 
   abbrev pub TargetSpelt : TargetTree Text → Type 0
   TargetSpelt (Whole x) = NameSpelt x
@@ -204,15 +214,15 @@ module _ (P : Place → Type 0) (W : Type 0) where
     StmtSpelt (Assigned target sign item semicolon) = TargetSpelt target × SignSpelt sign × ItemSpelt item × P semicolon
     StmtSpelt (Call x dot call semicolon) = NameSpelt x × P dot × CallSpelt call × P semicolon
     StmtSpelt (Write w) = WriteSpelt w
-    StmtSpelt (Block from body upto) = P from × StmtsSpelt body × P upto
+    StmtSpelt (Block from body upto) = P from × StmtsSpelt body × P upto × AreInner body
     StmtSpelt (If at e first second) = P at × ExprSpelt e × BodySpelt first × ElseSpelt second
     StmtSpelt (Headed word at e body) = P at × ExprSpelt e × BodySpelt body × HeadWordSpelt word
     StmtSpelt (Loop word at xs within item intents body) =
         P at × VariablesSpelt xs × P within × ItemSpelt item × IfThere WithSpelt intents × BodySpelt body × LoopWordSpelt word
 
     pub BodySpelt : Body Text → Type 0
-    BodySpelt (WordBody at t) = P at × StmtSpelt t
-    BodySpelt (BlockBody from ts upto) = P from × StmtsSpelt ts × P upto
+    BodySpelt (WordBody at t) = P at × StmtSpelt t × IsInner t
+    BodySpelt (BlockBody from ts upto) = P from × StmtsSpelt ts × P upto × AreInner ts
 
     pub StmtsSpelt : Stmts Text → Type 0
     StmtsSpelt NoStmts = Unit {0}
@@ -220,4 +230,4 @@ module _ (P : Place → Type 0) (W : Type 0) where
 
     pub ElseSpelt : Else Text → Type 0
     ElseSpelt NoElse = Unit {0}
-    ElseSpelt (ElseDo at t) = P at × StmtSpelt t
+    ElseSpelt (ElseDo at t) = P at × StmtSpelt t × IsInner t
