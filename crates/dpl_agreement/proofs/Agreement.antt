@@ -5,20 +5,20 @@ use Rattle.std.specs.Prelude.{All, option_map}
 use Rattle.std.proofs.lemmas.List.Elements.{All-weaker}
 use Rattle.dpl_syntax.specs.declared.place.Place.{Place}
 use Rattle.dpl_sets.specs.TextRanges.{TextRange}
-use Rattle.dpl_language.specs.Tree.{Op, ExprTree, WithTree, VariablesTree, HeadWord, WhileWord, OnWord, LoopWord, ForWord, ForallWord, CoforallWord, StmtTree, Nothing, Declare, Assigned, Call, Write, Block, If, Headed, Loop, Body, WordBody, BlockBody, Stmts, NoStmts, Then, Else, NoElse, ElseDo}
-use Rattle.dpl_language.specs.Values.{Value, Index, number, fault, PastLimit}
+use Rattle.dpl_language.specs.Tree.{Op, ExprTree, WithTree, VariablesTree, LoopWord, ForWord, ForallWord, CoforallWord, StmtTree, Nothing, Declare, Assigned, Call, Write, Block, If, Headed, Loop, Body, WordBody, BlockBody, Stmts, NoStmts, Then, Else, NoElse, ElseDo}
+use Rattle.dpl_language.specs.Values.{Value, Index, fault, PastLimit}
 use Rattle.dpl_language.specs.Ranges.{indices_in, size_in, loop_ranges}
 use Rattle.dpl_language.specs.Outcome.{Done, Run, then_do}
 use Rattle.dpl_language.specs.Environment.{Environment, Limits}
 use Rattle.dpl_language.specs.Phrases.{intents_of}
 use Rattle.dpl_language.specs.Loops.{within_budget, named_turn, turn_of}
-use Rattle.dpl_language.specs.Statements.{task_limit, holds, headed, looped, exec, exec_body, exec_all, exec_else}
+use Rattle.dpl_language.specs.Statements.{task_limit, holds, looped, exec, exec_body, exec_all, exec_else}
 use Rattle.dpl_agreement.specs.Renamed.{renamed_expr, renamed_with, renamed_variables, renamed_stmt, renamed_body, renamed_stmts, renamed_else, renamed_intents}
 use Rattle.dpl_language.specs.Declarations.{type_of}
 use Rattle.dpl_language.specs.Roots.{dealt}
 use Rattle.dpl_agreement.specs.Scopes.{form_by, Scoping, add_variables, inside, fits_expr, fits_variables, fits_loop, begun, fits_head, after, after_all, after_body, fits, fits_body, fits_all, fits_else}
 use Rattle.dpl_agreement.specs.Agreement.{Simulates, EndsAlike, RunAlike}
-use Rattle.dpl_agreement.proofs.RunsAlike.{with_ok-same, then_do-alike, with_value-alike, with_value-alike_by, choose-alike, unless-alike, repeated-alike, within_budget-alike, named_turns-alike}
+use Rattle.dpl_agreement.proofs.RunsAlike.{with_ok-same, then_do-alike, with_value-alike, with_value-alike_by, choose-alike, unless-alike, within_budget-alike, named_turns-alike, MovesAlike, headed-alike}
 use Rattle.dpl_agreement.proofs.RenamedParts.{intents_of-renamed}
 use Rattle.dpl_agreement.proofs.ExpressionsAlike.{value_of-renamed, item_of-renamed}
 use Rattle.dpl_agreement.proofs.LoopsAlike.{leave-after_stmt_in, leave-after_all_in, leave-after_body_in, HoldsTurn, scoped-alike, turns-held, turn_of-alike, coforall-alike}
@@ -51,22 +51,10 @@ module _ {M N G S1 S2 : Type 0} (limits : Limits) (name : N → M) (scoping : Sc
       (λ u1 u2 done q. (second.intend [] u2, sim.ends_forall is g u1 u2 q f, refl))
 
   -- on a locale, and back
-  on-alike : (g : G) (v : Value) (a1 : Run S1) (a2 : Run S2) → scoping.moves g → RunAlike (R g) (R g) a1 a2
-      → RunAlike (R g) (R g) (λ s done. then_do (a1 (first.move (number v) s) done) (λ after done. Done (first.move (first.here s) after) done))
-      (λ s done. then_do (a2 (second.move (number v) s) done) (λ after done. Done (second.move (second.here s) after) done))
-  on-alike g v a1 a2 m p s1 s2 done r =
-      then_do-alike (R g) (R g) (a1 (first.move (number v) s1) done) (a2 (second.move (number v) s2) done) _ _
-      (p (first.move (number v) s1) (second.move (number v) s2) done (sim.moves (number v) g s1 s2 r m))
-      (λ u1 u2 done q. (second.move (second.here s2) u2, subst (λ k. R g (first.move (first.here s1) u1) (second.move k u2)) (sim.heres g s1 s2 r) (sim.moves (first.here s1) g u1 u2 q m), refl))
+  moves-alike : (g : G) → scoping.moves g → MovesAlike limits limits first second (R g)
+  moves-alike g m = record { heres = sim.heres g; moves = λ k s1 s2 r. sim.moves k g s1 s2 r m }
 
-  -- by the word of a head, and of a loop
-  head-alike : (word : HeadWord) (at : Place) (e : ExprTree N) (g : G) (a1 : Run S1) (a2 : Run S2) → fits_expr scoping None e g → fits_head scoping word g → RunAlike (R g) (R g) a1 a2
-      → RunAlike (R g) (R g) (headed limits first word at (renamed_expr name e) a1) (headed limits second word at e a2)
-  head-alike WhileWord at e g a1 a2 f m p s1 s2 done r =
-      repeated-alike limits.budget at (R g) _ _ _ _ (λ s1 s2 r. holds-renamed e g s1 s2 r f) p s1 s2 done r
-  head-alike OnWord at e g a1 a2 f m p s1 s2 done r =
-      with_value-alike (R g) _ _ _ _ s1 s2 done (value_of-renamed limits name scoping first second R sim e None g s1 s2 r f) (λ v. on-alike g v _ _ m p s1 s2 done r)
-
+  -- by the word of a loop
   loop-alike : (word : LoopWord) (at : Place) (xs : VariablesTree N) (intents : Option (WithTree N)) (rs : List TextRange) (g : G) (a1 : Index → Run S1) (a2 : Index → Run S2)
       → fits_loop scoping word xs intents g → All (λ t. RunAlike (R (begun scoping word intents g)) (R (begun scoping word intents g)) (a1 t) (a2 t)) (indices_in rs)
       → RunAlike (R g) (R g) (looped limits first word at (renamed_variables name xs) (option_map (renamed_with name) intents) rs a1) (looped limits second word at xs intents rs a2)
@@ -104,9 +92,9 @@ module _ {M N G S1 S2 : Type 0} (limits : Limits) (name : N → M) (scoping : Sc
         (scoped-alike limits name scoping first second R sim g (after_body scoping a (scoping.enter g)) _ _ (leave-after_body_in scoping sim.lawful a g) (exec_body-alike a (scoping.enter g) f.1))
         (exec_else-alike b g f.2) s1 s2 done r)
     exec-alike (Headed word at e body) g f s1 s2 done r =
-        head-alike word at e g _ _ f.0 f.2
+        headed-alike limits limits first second (R g) word at (renamed_expr name e) e _ _ refl (λ s1 s2 r. value_of-renamed limits name scoping first second R sim e None g s1 s2 r f.0)
         (scoped-alike limits name scoping first second R sim g (after_body scoping body (scoping.enter g)) _ _ (leave-after_body_in scoping sim.lawful body g) (exec_body-alike body (scoping.enter g) f.1))
-        s1 s2 done r
+        (λ is. moves-alike g (subst (λ w. fits_head scoping w g) is f.2)) s1 s2 done r
     exec-alike (Loop word at xs within item intents body) g f s1 s2 done r =
         with_value-alike_by (R g) _ _ _ _ s1 s2 done (item_of-renamed limits name scoping first second R sim item None g s1 s2 r f.0)
         (λ v e. loop-alike word at xs intents (loop_ranges limits.locales v) g _ _ f.2

@@ -1,15 +1,18 @@
 -- Runs that are put together from runs that end alike end alike.
 -- One lemma for each way in which runs are put together, over any two relations of states.
 use Rattle.std.proofs.Common.{◌≡◌, ℕ, zero, suc, Bool, true, false, List, [], ◌∷◌, refl, sym, ap, ◌∙◌, subst, Ok, Err, Some, None, Result, Option, nat_lt}
-use Rattle.std.specs.Prelude.{All, get_or}
+use Rattle.std.specs.Prelude.{ℤ, All, get_or}
 use Rattle.std.proofs.lemmas.List.Elements.{All-head, All-tail, All-weaker}
 use Rattle.dpl_syntax.specs.declared.place.Place.{Place}
 use Rattle.dpl_sets.specs.TextRanges.{TextRange}
-use Rattle.dpl_language.specs.Values.{Index, Fault, fault, Budget}
+use Rattle.dpl_language.specs.Tree.{ExprTree, HeadWord, WhileWord, OnWord}
+use Rattle.dpl_language.specs.Values.{Index, number, Fault, fault, Budget}
 use Rattle.dpl_language.specs.Ranges.{indices_in, size_in}
 use Rattle.dpl_language.specs.Outcome.{Deeds, Outcome, Done, Stop, Waits, Run, with_ok, with_value, then_do, choose, unless, in_order, repeated, naming}
-use Rattle.dpl_language.specs.Environment.{Limits}
+use Rattle.dpl_language.specs.Environment.{Environment, Limits}
+use Rattle.dpl_language.specs.Expressions.{value_of}
 use Rattle.dpl_language.specs.Loops.{within_budget, named_turn}
+use Rattle.dpl_language.specs.Statements.{holds, headed}
 use Rattle.dpl_language.specs.Tasks.{solo_of, stop_or}
 use Rattle.dpl_language.specs.Program.{settled, deeds_of, written}
 use Rattle.dpl_agreement.specs.Agreement.{EndsAlike, RunAlike}
@@ -118,3 +121,24 @@ module _ {S1 S2 : Type 0} where
   deeds_of-alike P (Done s done) b al = ap deeds_of (sym al.2)
   deeds_of-alike P (Stop f done) b al = ap deeds_of (sym al)
   deeds_of-alike P (Waits at c op done) b al = ap deeds_of (sym al)
+
+-- A BODY BEHIND A WORD AND AN EXPRESSION, by the word: here is its case, so that a law of statements needs none of its own.
+module _ {M N S1 S2 : Type 0} (one other : Limits) (first : Environment M S1) (second : Environment N S2) (P : S1 → S2 → Type 0) where
+  -- on the same locale, and moved to the same one
+  pub record MovesAlike : Type 0 where
+    pub heres : (s1 : S1) (s2 : S2) → P s1 s2 → first.here s1 ≡ second.here s2
+    pub moves : (k : ℤ) (s1 : S1) (s2 : S2) → P s1 s2 → P (first.move k s1) (second.move k s2)
+
+  -- from the same value and a body that ends alike; of locales is asked only where the word is `on`
+  pub headed-alike : (word : HeadWord) (at : Place) (e1 : ExprTree M) (e2 : ExprTree N) (a : Run S1) (b : Run S2) → one.budget ≡ other.budget
+      → ((s1 : S1) (s2 : S2) → P s1 s2 → value_of one first e1 None s1 ≡ value_of other second e2 None s2) → RunAlike P P a b → (word ≡ OnWord → MovesAlike)
+      → RunAlike P P (headed one first word at e1 a) (headed other second word at e2 b)
+  headed-alike WhileWord at e1 e2 a b budget same p locales =
+      subst (λ n. RunAlike P P (repeated one.budget at (holds one first e1) a) (repeated n at (holds other second e2) b)) budget
+      (repeated-alike one.budget at P _ _ a b (λ s1 s2 r. with_ok-same _ _ _ _ (same s1 s2 r) (λ v. refl)) p)
+  headed-alike OnWord at e1 e2 a b budget same p locales = λ s1 s2 done r.
+      let is = locales refl in
+      with_value-alike P _ _ _ _ s1 s2 done (same s1 s2 r)
+      (λ v. then_do-alike P P (a (first.move (number v) s1) done) (b (second.move (number v) s2) done) _ _
+      (p (first.move (number v) s1) (second.move (number v) s2) done (is.moves (number v) s1 s2 r))
+      (λ u1 u2 done q. (second.move (second.here s2) u2, subst (λ k. P (first.move (first.here s1) u1) (second.move k u2)) (is.heres s1 s2 r) (is.moves (first.here s1) u1 u2 q), refl)))

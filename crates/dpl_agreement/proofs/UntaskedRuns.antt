@@ -11,7 +11,7 @@ use Rattle.dpl_history.specs.declared.cell.Reply.{Reply}
 use Rattle.dpl_history.specs.declared.cell.Reply.TheVariants.{Value as Given, Done as NoValue}
 use Rattle.dpl_sets.specs.TextRanges.{TextRange}
 use Rattle.dpl_language.specs.Tree.{Placed, AfterComma, Listed, Op, Kind, IntKind, BoolKind, Assign, Set, SetReduce, AssignTree, ExprTree, ItemTree, One, Exprs, TypeTree, ScalarType, SyncType, DomainType, ArrayType, ArrayTypeTree, InitTree, ItemInit, CreateInit, TypedTree, InitialTree, DeclareTree, ArgumentTree, TextArgument, ExprArgument, WriteTree, WithTree, VariablesTree, OneVariable, ManyVariables, TargetTree, Whole, Element, CallTree, ReadCall, ResetCall, WriteCall}
-use Rattle.dpl_language.specs.Tree.{HeadWord, WhileWord, OnWord, LoopWord, ForWord, ForallWord, CoforallWord, StmtTree, Nothing, Declare, Assigned, Call, Write, Block, If, Headed, Loop, Body, WordBody, BlockBody, Stmts, NoStmts, Then, Else, NoElse, ElseDo}
+use Rattle.dpl_language.specs.Tree.{LoopWord, ForWord, ForallWord, CoforallWord, StmtTree, Nothing, Declare, Assigned, Call, Write, Block, If, Headed, Loop, Body, WordBody, BlockBody, Stmts, NoStmts, Then, Else, NoElse, ElseDo}
 use Rattle.dpl_language.specs.Values.{Value, Int, Domain, AllLocales, Index, number, index_of, ranges_in, array_domain, is_domain, cell_kind, kept_number, default, Fault, fault, Budget, ZeroDivisor, ArrayTooLarge}
 use Rattle.dpl_language.specs.Arithmetic.{assigned, assign_divides, tested_divisor}
 use Rattle.dpl_language.specs.Ranges.{indices_in, size_in, too_large, empty_domain, loop_ranges, index_value, loop_value}
@@ -24,10 +24,10 @@ use Rattle.dpl_language.specs.Assignments.{reply_value, and_no_more, answered, c
 use Rattle.dpl_language.specs.Declarations.{gathered, filled, Shell, array_with, type_of, declaring, initial_then, declare_with, array_of_item, array_of_init, array_of, declare_array, declare_typed, given_or, declare_by}
 use Rattle.dpl_language.specs.Roots.{dealt}
 use Rattle.dpl_language.specs.Writing.{line_end, arguments_of, shown, arguments_then, write}
-use Rattle.dpl_language.specs.Statements.{holds, headed, looped, exec, exec_body, exec_all, exec_else}
+use Rattle.dpl_language.specs.Statements.{holds, looped, exec, exec_body, exec_all, exec_else}
 use Rattle.dpl_agreement.specs.Untasked.{UntaskedIf, UntaskedOthers, UntaskedList, UntaskedExpr, UntaskedItem, UntaskedItems, UntaskedExprs, UntaskedType, UntaskedInit, UntaskedTyped, UntaskedInitial, UntaskedDeclare, UntaskedArgument, UntaskedWrite, UntaskedTarget, UntaskedCall, UntaskedHead, UntaskedLoop, UntaskedStmt, UntaskedBody, UntaskedStmts, UntaskedElse}
 use Rattle.dpl_agreement.specs.Agreement.{EndsAlike, RunAlike}
-use Rattle.dpl_agreement.proofs.RunsAlike.{All-every, with_ok-same, then_do-alike, with_value-alike_by, choose-alike, unless-alike, repeated-alike, named_turn-alike, within_budget-alike}
+use Rattle.dpl_agreement.proofs.RunsAlike.{All-every, with_ok-same, then_do-alike, with_value-alike_by, choose-alike, unless-alike, named_turn-alike, within_budget-alike, headed-alike}
 use Rattle.dpl_agreement.proofs.UntaskedValues.{NotLocales, NoLocalesIn, HoldsBehind, HoldsNoLocales, combined-free, tested-free, found-free, SameOk, SameFree, with_ok-of, value_of-free, item_of-free, values_of-same, domain_of-free}
 use Rattle.dpl_agreement.proofs.UntaskedRoots.{dealt-same, dealt-free}
 
@@ -310,11 +310,7 @@ module _ {N S : Type 0} (budget l m : ℕ) (env : Environment N S) (P : S → Ty
   holds-same : (e : ExprTree N) (s : S) → UntaskedExpr e → P s → holds one env e s ≡ holds other env e s
   holds-same e s u k = with_ok-same _ _ _ _ (value_of-free budget l m env P laws e None s u k).0 (λ v. refl)
 
-  -- by the word of a head, and of a loop
-  head-same : (word : HeadWord) (at : Place) (e : ExprTree N) (a b : Run S) → UntaskedExpr e → UntaskedHead word → Alike a b → Alike (headed one env word at e a) (headed other env word at e b)
-  head-same WhileWord at e a b u w p = repeated-alike budget at Kept _ _ _ _ (λ s1 s2 r. holds-same e s1 u r.0 ∙ ap (holds other env e) r.1) p
-  head-same OnWord at e a b u w p = absurd w
-
+  -- by the word of a loop
   loop-same : (word : LoopWord) (at : Place) (xs : VariablesTree N) (intents : Option (WithTree N)) (v : Value) (a b : Index → Run S) → NotLocales v → UntaskedLoop word → ((t : Index) → Alike (a t) (b t))
       → Alike (looped one env word at xs intents (loop_ranges l v) a) (looped other env word at xs intents (loop_ranges m v) b)
   loop-same ForWord at xs intents v a b h w p = turns-same at v a b h p
@@ -339,7 +335,9 @@ module _ {N S : Type 0} (budget l m : ℕ) (env : Environment N S) (P : S → Ty
     exec-same (If at e first second) u =
         with_value-any (λ s. holds one env e s) (λ s. holds other env e s) _ _ (λ s k. holds-same e s u.0 k)
         (λ b. choose-alike b Kept Kept _ _ _ _ (scoped-same _ _ (exec_body-same first u.1)) (exec_else-same second u.2))
-    exec-same (Headed word at e body) u = head-same word at e _ _ u.0 u.2 (scoped-same _ _ (exec_body-same body u.1))
+    exec-same (Headed word at e body) u =
+        headed-alike one other env env Kept word at e e _ _ refl (λ s1 s2 r. (value_of-free budget l m env P laws e None s1 u.0 r.0).0 ∙ ap (value_of other env e None) r.1)
+        (scoped-same _ _ (exec_body-same body u.1)) (λ is. absurd (subst UntaskedHead is u.2))
     exec-same (Loop word at xs within item intents body) u =
         with_value-of NotLocales (λ s. item_of one env item None s) (λ s. item_of other env item None s) _ _ (λ s k. item_of-free budget l m env P laws item None s u.0 k)
         (λ v h. loop-same word at xs intents v _ _ h u.2 (turn_of-same xs v _ _ (exec_body-same body u.1)))
