@@ -5,14 +5,14 @@ use Rattle.std.specs.Prelude.{All}
 use Rattle.std.proofs.lemmas.List.Elements.{All-head, All-tail, All-weaker}
 use Rattle.dpl_syntax.specs.declared.place.Place.{Place}
 use Rattle.dpl_sets.specs.TextRanges.{TextRange}
-use Rattle.dpl_language.specs.Tree.{Placed, ExprTree, ItemTree, VariablesTree, OneVariable, ManyVariables, WhileWord, OnWord, ForWord, ForallWord, CoforallWord, StmtTree, Nothing, Declare, Assigned, Call, Write, Block, If, Headed, Loop, Body, WordBody, BlockBody, Stmts, NoStmts, Then, Else, NoElse, ElseDo}
+use Rattle.dpl_language.specs.Tree.{Placed, ExprTree, ItemTree, VariablesTree, OneVariable, ManyVariables, HeadWord, WhileWord, OnWord, ForWord, ForallWord, CoforallWord, StmtTree, Nothing, Declare, Assigned, Call, Write, Block, If, Headed, Loop, Body, WordBody, BlockBody, Stmts, NoStmts, Then, Else, NoElse, ElseDo}
 use Rattle.dpl_language.specs.Values.{Value, Int, Index, Fault}
 use Rattle.dpl_language.specs.Ranges.{indices_in, size_in, loop_ranges, loop_value}
 use Rattle.dpl_language.specs.Outcome.{Deeds, Outcome, Done, Stop, Waits, Run}
 use Rattle.dpl_language.specs.Environment.{Plain, Environment, Limits}
 use Rattle.dpl_language.specs.Phrases.{parts, intents_of}
 use Rattle.dpl_language.specs.Loops.{named_turn, scoped, declare_each, bound_to, turn_of}
-use Rattle.dpl_language.specs.Expressions.{item_of}
+use Rattle.dpl_language.specs.Expressions.{value_of, item_of}
 use Rattle.dpl_language.specs.Statements.{holds, exec_body}
 use Rattle.dpl_agreement.specs.Renamed.{renamed, renamed_expr, renamed_item, renamed_variables, renamed_stmt, renamed_body, renamed_stmts, renamed_else, renamed_intents}
 use Rattle.dpl_agreement.specs.Scopes.{Scoping, PlainForm, add_each, add_variables, inside, fits_expr, fits_item, fits_each, fits_variables, holds_ints, after, after_body, fits, fits_body, fits_all, fits_else}
@@ -22,7 +22,7 @@ use Rattle.dpl_agreement.proofs.RenamedParts.{parts-mapped, intents_of-renamed}
 use Rattle.dpl_agreement.proofs.ExpressionsAlike.{value_of-renamed, item_of-renamed}
 use Rattle.dpl_agreement.proofs.LoopsAlike.{leave-after_body_in, HoldsTurn, scoped-alike, turns-held, turn_of-alike}
 use Rattle.dpl_agreement.proofs.Agreement.{exec-alike, exec_all-alike}
-use Rattle.dpl_run.specs.Entered.{Entry, Entering, entered_behind, entered_with, entered_if, entered_never, entered_in_order, entered_within, entered_repeated, entered_inside, entered_turn, entered, entered_body, entered_all, entered_else, Pairwise}
+use Rattle.dpl_run.specs.Entered.{Entry, Entering, entered_behind, entered_with, entered_if, entered_never, entered_in_order, entered_within, entered_repeated, entered_inside, entered_turn, entered_head, entered, entered_body, entered_all, entered_else, Pairwise}
 
 pub pair-append : {A B : Type 0} (R : A → B → Type 0) (ws xs : List A) (ys zs : List B) → Pairwise R ws ys → Pairwise R xs zs → Pairwise R (ws ++ xs) (ys ++ zs)
 pair-append R [] xs [] zs p q = q
@@ -79,7 +79,15 @@ module _ {M N S1 S2 : Type 0} (Same : Entry M S1 → Entry N S2 → Type 0) wher
       (behind-entered P (a s1 done) (b s2 done) (entered_repeated n t1 a x) (entered_repeated n t2 b y) (p s1 s2 done r) (repeated-entered n P t1 t2 a b x y e p q)))
       (λ s1 s2 done r. tt) s1 s2 done r)
 
--- ---- what is so of each forall of a text where it stands
+  -- behind a word and an expression, by the word: here is its case, so that a law of statements needs none of its own
+  pub head-entered : (limits : Limits) (first : Environment M S1) (second : Environment N S2) (P : S1 → S2 → Type 0) (word : HeadWord) (e1 : ExprTree M) (e2 : ExprTree N)
+      (a : Run S1) (b : Run S2) (x : Entering M S1) (y : Entering N S2) → ((s1 : S1) (s2 : S2) → P s1 s2 → value_of limits first e1 None s1 ≡ value_of limits second e2 None s2)
+      → RunAlike P P a b → EntersAlike P x y → EntersAlike P (entered_head limits first word e1 a x) (entered_head limits second word e2 b y)
+  head-entered limits first second P WhileWord e1 e2 a b x y same p q =
+      repeated-entered limits.budget P (holds limits first e1) (holds limits second e2) a b x y (λ s1 s2 r. with_ok-same _ _ _ _ (same s1 s2 r) (λ v. refl)) p q
+  head-entered limits first second P OnWord e1 e2 a b x y same p q = λ s1 s2 done r. tt
+
+-- ---- what is so of each forall of a text where it stands, but for those in a coforall
 module _ {N G : Type 0} (scoping : Scoping N G) (Q : G → Place → ItemTree N → Body N → Type 0) where
   abbrev mutual
     pub EachForall : StmtTree N → G → Type 0
@@ -90,8 +98,7 @@ module _ {N G : Type 0} (scoping : Scoping N G) (Q : G → Place → ItemTree N 
     EachForall (Write w) g = Unit {0}
     EachForall (Block from body upto) g = EachAmong body (scoping.enter g)
     EachForall (If at e first second) g = EachInBody first (scoping.enter g) × EachInElse second g
-    EachForall (Headed OnWord at e body) g = Unit {0}
-    EachForall (Headed _ at e body) g = EachInBody body (scoping.enter g)
+    EachForall (Headed word at e body) g = EachInBody body (scoping.enter g)
     EachForall (Loop ForWord at xs within item intents body) g = EachInBody body (inside scoping xs g)
     EachForall (Loop ForallWord at xs within item intents body) g = Q g at item body × EachInBody body (inside scoping xs (scoping.intend (intents_of intents) g))
     EachForall (Loop CoforallWord at xs within item intents body) g = Unit {0}
@@ -186,9 +193,9 @@ module _ {M N G S1 S2 : Type 0} (limits : Limits) (name : N → M) (scoping : Sc
     stmt-entered (If at e a b) g f q s1 s2 done r =
         with-entered IsMet (holds limits first (renamed_expr name e) s1) (holds limits second e s2) _ _ s1 s2 done (holds-same e g s1 s2 r f.0)
         (λ c told. if-entered IsMet c (R g) _ _ _ _ (inside-entered g _ _ (body-entered a (scoping.enter g) f.1 q.0)) (else-entered b g f.2 q.1) s1 s2 done r)
-    stmt-entered (Headed WhileWord at e body) g f q s1 s2 done r =
-        repeated-entered IsMet limits.budget (R g) _ _ _ _ _ _ (λ s1 s2 r. holds-same e g s1 s2 r f.0) (inner-alike body g f.1)
-        (inside-entered g _ _ (body-entered body (scoping.enter g) f.1 q)) s1 s2 done r
+    stmt-entered (Headed word at e body) g f q s1 s2 done r =
+        head-entered IsMet limits first second (R g) word (renamed_expr name e) e _ _ _ _ (λ s1 s2 r. value_of-renamed limits name scoping first second R sim e None g s1 s2 r f.0)
+        (inner-alike body g f.1) (inside-entered g _ _ (body-entered body (scoping.enter g) f.1 q)) s1 s2 done r
     stmt-entered (Loop ForWord at xs within item intents body) g f q s1 s2 done r =
         with-entered IsMet (item_of limits first (renamed_item name item) None s1) (item_of limits second item None s2) _ _ s1 s2 done
         (item_of-renamed limits name scoping first second R sim item None g s1 s2 r f.0)

@@ -5,13 +5,13 @@ use Rattle.std.specs.Prelude.{All, option_map}
 use Rattle.std.proofs.lemmas.List.{append-nil}
 use mathlib.Core.Path.{fun_ext}
 use Rattle.dpl_sets.specs.TextRanges.{TextRange}
-use Rattle.dpl_language.specs.Tree.{Placed, ExprTree, ItemTree, One, VariablesTree, OneVariable, ManyVariables, WhileWord, ForWord, ForallWord, StmtTree, Block, If, Headed, Loop, Body, WordBody, BlockBody, Stmts, NoStmts, Then, Else, NoElse, ElseDo}
+use Rattle.dpl_language.specs.Tree.{Placed, ExprTree, ItemTree, One, VariablesTree, OneVariable, ManyVariables, ForWord, ForallWord, StmtTree, Block, If, Headed, Loop, Body, WordBody, BlockBody, Stmts, NoStmts, Then, Else, NoElse, ElseDo}
 use Rattle.dpl_language.specs.Values.{Value, Int, Index}
 use Rattle.dpl_language.specs.Ranges.{indices_in, loop_ranges}
 use Rattle.dpl_language.specs.Outcome.{Deeds, Outcome, Done, Stop, Waits, Run, then_do}
 use Rattle.dpl_language.specs.Environment.{Plain, Environment, Limits}
 use Rattle.dpl_language.specs.Phrases.{parts, intents_of}
-use Rattle.dpl_language.specs.Expressions.{item_of}
+use Rattle.dpl_language.specs.Expressions.{value_of, item_of}
 use Rattle.dpl_language.specs.Loops.{named_turn, scoped, declare_each, bound_to, turn_of}
 use Rattle.dpl_language.specs.Statements.{holds, exec, exec_body, exec_all}
 use Rattle.dpl_agreement.specs.Renamed.{map_listed, renamed, renamed_expr, renamed_item, renamed_variables, renamed_with, renamed_stmt, renamed_body, renamed_stmts, renamed_else, renamed_intents}
@@ -27,7 +27,7 @@ use Rattle.dpl_lowered.proofs.Values.{value_of-lowered, item_of-lowered}
 use Rattle.dpl_lowered.proofs.Parts.{parts-relisted, intents_of-made}
 use Rattle.dpl_lowered.proofs.Runs.{exec_all-lowered}
 use Rattle.dpl_run.specs.Entered.{Entry, Entering, entered_behind, entered_within, entered_inside, entered_turn, entered, entered_body, entered_all, entered_else, Pairwise}
-use Rattle.dpl_run.proofs.EnteredAlike.{pair-append, EntersAlike, behind-entered, with-entered, if-entered, within-entered, repeated-entered}
+use Rattle.dpl_run.proofs.EnteredAlike.{pair-append, EntersAlike, behind-entered, with-entered, if-entered, within-entered, head-entered}
 
 -- ---- runs that are the same end alike
 module _ {S : Type 0} where
@@ -68,9 +68,11 @@ module _ {M N S : Type 0} (limits : Limits) (name : N → M) (env : Environment 
   Enters x y = EntersAlike IsLowered Same x y
 
   -- ---- values and runs are the same
+  value-same : (e : ExprTree N) (s : S) → value_of limits by_names e None s ≡ value_of limits env (lowered_expr known Once (renamed_expr name e)) None s
+  value-same e s = item_of-through limits name env (One e) s ∙ sym (value_of-lowered limits env known is Once (renamed_expr name e) None s tt)
+
   holds-same : (e : ExprTree N) (s : S) → holds limits by_names e s ≡ holds limits env (lowered_expr known Once (renamed_expr name e)) s
-  holds-same e s =
-      with_ok-same _ _ _ _ (item_of-through limits name env (One e) s ∙ sym (value_of-lowered limits env known is Once (renamed_expr name e) None s tt)) (λ v. refl)
+  holds-same e s = with_ok-same _ _ _ _ (value-same e s) (λ v. refl)
 
   item-same : (item : ItemTree N) (s : S) → item_of limits by_names item None s ≡ item_of limits env (lowered_item known Once (renamed_item name item)) None s
   item-same item s = item_of-through limits name env item s ∙ sym (item_of-lowered limits env known is Once (renamed_item name item) None s tt)
@@ -145,9 +147,10 @@ module _ {M N S : Type 0} (limits : Limits) (name : N → M) (env : Environment 
         with-entered IsLowered (holds limits by_names e s) (holds limits env (lowered_expr known Once (renamed_expr name e)) u) _ _ s u done
         (holds-same e s ∙ ap (holds limits env (lowered_expr known Once (renamed_expr name e))) r)
         (λ c told. if-entered IsLowered c Same _ _ _ _ (inside-same _ _ (body-lowered a)) (else-lowered b) s u done r)
-    stmt-lowered (Headed WhileWord at e body) s u done r =
-        repeated-entered IsLowered limits.budget Same _ _ (scoped by_names (exec_body limits by_names body)) (scoped env (exec_body limits env (lowered_body known (renamed_body name body)))) _ _
-        (λ s u r. holds-same e s ∙ ap (holds limits env (lowered_expr known Once (renamed_expr name e))) r)
+    stmt-lowered (Headed word at e body) s u done r =
+        head-entered IsLowered limits by_names env Same word e (lowered_expr known Once (renamed_expr name e))
+        (scoped by_names (exec_body limits by_names body)) (scoped env (exec_body limits env (lowered_body known (renamed_body name body)))) _ _
+        (λ s u r. value-same e s ∙ ap (value_of limits env (lowered_expr known Once (renamed_expr name e)) None) r)
         (run-same _ _ (λ s done. ap (λ run. scoped env run s done) (fun_ext (λ s. fun_ext (λ done. body-same body s done)))))
         (inside-same _ _ (body-lowered body)) s u done r
     stmt-lowered (Loop ForWord at xs within item intents body) s u done r =

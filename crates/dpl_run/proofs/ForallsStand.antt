@@ -4,7 +4,7 @@ use Rattle.std.specs.Prelude.{bytes_eq, if◌then◌else◌, option_map}
 use Rattle.std.specs.Option.{option_or}
 use Rattle.std.proofs.lemmas.Option.{same_Some}
 use Rattle.dpl_syntax.specs.declared.place.Place.{Place}
-use Rattle.dpl_language.specs.Tree.{Placed, AfterComma, ItemTree, VariablesTree, OneVariable, ManyVariables, OnWord, LoopWord, ForWord, ForallWord, StmtTree, Declare, Block, If, Headed, Loop, Body, WordBody, BlockBody, Stmts, NoStmts, Then, Else, NoElse, ElseDo}
+use Rattle.dpl_language.specs.Tree.{Placed, AfterComma, ItemTree, VariablesTree, OneVariable, ManyVariables, LoopWord, ForWord, ForallWord, StmtTree, Declare, Block, If, Headed, Loop, Body, WordBody, BlockBody, Stmts, NoStmts, Then, Else, NoElse, ElseDo}
 use Rattle.dpl_language.specs.Names.{Text}
 use Rattle.dpl_language.specs.Phrases.{intents_of}
 use Rattle.dpl_language.specs.Declarations.{type_of}
@@ -130,8 +130,7 @@ module _ (start : Start) (fs : List ForallIn) where
       body-stands first (enter ss) ((resolving start).enter g) seen (λ f a. among f (among-left f (body_foralls (enter ss) first) (else_foralls (enter ss) second) a)),
       else-stands second ss g seen (λ f a. among f (among-right f (body_foralls (enter ss) first) (else_foralls (enter ss) second) a)),
     )
-    stmt-stands (Headed OnWord at e body) ss g seen among = tt
-    stmt-stands (Headed _ at e body) ss g seen among = body-stands body (enter ss) ((resolving start).enter g) seen among
+    stmt-stands (Headed word at e body) ss g seen among = body-stands body (enter ss) ((resolving start).enter g) seen among
     stmt-stands (Loop ForWord at xs within item intents body) ss g seen among = body-stands body (in_loop ss ForWord xs item) _ (seen-loop start ForWord xs item ss g seen) among
     stmt-stands (Loop ForallWord at xs within item intents body) ss g seen among = (
       record {

@@ -5,8 +5,8 @@ use Rattle.std.specs.Prelude.{option_map}
 use mathlib.Core.Path.{fun_ext}
 use Rattle.dpl_syntax.specs.declared.place.Place.{Place}
 use Rattle.dpl_history.specs.declared.history.Event.{Event}
-use Rattle.dpl_language.specs.Tree.{Placed, ExprTree, ArrayTypeTree, TypeTree, ScalarType, SyncType, DomainType, ArrayType, InitTree, ItemInit, CreateInit, TypedTree, InitialTree, DeclareTree, WhileWord, OnWord, ForWord, ForallWord, CoforallWord, StmtTree, Nothing, Declare, Assigned, Call, Write, Block, If, Headed, Loop, Body, WordBody, BlockBody, Stmts, NoStmts, Then, Else, NoElse, ElseDo, ProgramTree}
-use Rattle.dpl_language.specs.Values.{Value, Domain, Array, number, ranges_in, fault, PastLimit, ArrayTooLarge}
+use Rattle.dpl_language.specs.Tree.{Placed, ExprTree, ArrayTypeTree, TypeTree, ScalarType, SyncType, DomainType, ArrayType, InitTree, ItemInit, CreateInit, TypedTree, InitialTree, DeclareTree, ForWord, ForallWord, CoforallWord, StmtTree, Nothing, Declare, Assigned, Call, Write, Block, If, Headed, Loop, Body, WordBody, BlockBody, Stmts, NoStmts, Then, Else, NoElse, ElseDo, ProgramTree}
+use Rattle.dpl_language.specs.Values.{Value, Domain, Array, ranges_in, fault, PastLimit, ArrayTooLarge}
 use Rattle.dpl_language.specs.Distributions.{Root}
 use Rattle.dpl_language.specs.Ranges.{indices_in, size_in, loop_ranges, too_large}
 use Rattle.dpl_language.specs.Outcome.{Deeds, no_deeds, Outcome, Done, Stop, Waits, Run, with_value, unless}
@@ -19,7 +19,7 @@ use Rattle.dpl_language.specs.Statements.{task_limit, holds, exec, exec_body, ex
 use Rattle.dpl_language.specs.Names.{Text, State, by_name}
 use Rattle.dpl_language.specs.Program.{first_state, meaning}
 use Rattle.dpl_agreement.specs.Agreement.{EndsAlike}
-use Rattle.dpl_agreement.proofs.RunsAlike.{with_ok-same, then_do-alike, with_value-alike, choose-alike, unless-alike, repeated-alike, named_turn-alike, settled-alike}
+use Rattle.dpl_agreement.proofs.RunsAlike.{with_ok-same, then_do-alike, with_value-alike, choose-alike, unless-alike, named_turn-alike, settled-alike, MovesAlike, headed-alike}
 use Rattle.dpl_says.specs.Given.{given}
 use Rattle.dpl_says.specs.Says.{Ending, run_of, Means}
 use Rattle.dpl_run.specs.Unmapped.{unmapped_type, unmapped_typed, unmapped_init, unmapped_elements, initial_by, unmapped_declare, unmapped_stmt, unmapped_body, unmapped_stmts, unmapped_else, unmapped, rootless, meaning_by, bare, unrooted, Shows}
@@ -102,6 +102,10 @@ module _ (limits : Limits) (deal other : Text → Root → State → State) (kee
   holds-alike : (e : ExprTree Text) (s u : State) → Alike s u → holds limits first e s ≡ holds limits second e u
   holds-alike e s u r = with_ok-same _ _ _ _ (value-alike limits deal other e None s u r) (λ v. refl)
 
+  -- on a locale, and back
+  moves-alike : MovesAlike limits limits first second Alike
+  moves-alike = record { heres = λ s u r. ap by_name.here r; moves = λ k s u r. ap (λ s. bare (by_name.move k s)) r }
+
   -- a declaration, and then its root
   declared-alike : (d : DeclareTree Text) → SameRun (exec limits first (Declare d)) (exec limits second (Declare (unmapped_declare d)))
   declared-alike d s u done r =
@@ -124,8 +128,8 @@ module _ (limits : Limits) (deal other : Text → Root → State → State) (kee
     exec-alike (If at e a b) s u done r =
         with_value-alike Alike _ _ _ _ s u done (holds-alike e s u r)
         (λ c. choose-alike c Alike Alike _ _ _ _ (scoped-alike limits deal other _ _ (exec_body-alike a)) (exec_else-alike b) s u done r)
-    exec-alike (Headed WhileWord at e body) s u done r =
-        repeated-alike limits.budget at Alike _ _ _ _ (holds-alike e) (scoped-alike limits deal other _ _ (exec_body-alike body)) s u done r
+    exec-alike (Headed word at e body) s u done r =
+        headed-alike limits limits first second Alike word at e e _ _ refl (value-alike limits deal other e None) (scoped-alike limits deal other _ _ (exec_body-alike body)) (λ is. moves-alike) s u done r
     exec-alike (Loop ForWord at xs within item intents body) s u done r =
         with_value-alike Alike _ _ _ _ s u done (item-alike limits deal other item None s u r)
         (λ v. turns-alike limits deal other at (loop_ranges limits.locales v) _ _ (turn_of-alike limits deal other xs v _ _ (exec_body-alike body)) s u done r)
@@ -139,11 +143,6 @@ module _ (limits : Limits) (deal other : Text → Root → State → State) (kee
         with_value-alike Alike _ _ _ _ s u done (item-alike limits deal other item None s u r)
         (λ v. unless-alike (nat_lt task_limit (size_in (loop_ranges limits.locales v))) (fault PastLimit at) Alike Alike _ _
         (tasks_of-alike limits deal other (first_name xs) _ _ (turn_of-alike limits deal other xs v _ _ (exec_body-alike body)) (indices_in (loop_ranges limits.locales v))) s u done r)
-    exec-alike (Headed OnWord at e body) s u done r =
-        with_value-alike Alike _ _ _ _ s u done (value-alike limits deal other e None s u r)
-        (λ v. then_do-alike Alike Alike _ _ _ _
-        (scoped-alike limits deal other _ _ (exec_body-alike body) (by_name.move (number v) s) (by_name.move (number v) u) done (ap (λ s. bare (by_name.move (number v) s)) r))
-        (λ v w done q. (by_name.move (by_name.here u) w, ap (λ k. bare (by_name.move k v)) (ap by_name.here r) ∙ ap (λ s. bare (by_name.move (by_name.here u) s)) q, refl)))
 
     exec_body-alike : (b : Body Text) → SameRun (exec_body limits first b) (exec_body limits second (unmapped_body b))
     exec_body-alike (WordBody at t) s u done r = exec-alike t s u done r

@@ -5,7 +5,7 @@ use Rattle.std.proofs.lemmas.List.{append-nil, append_assoc}
 use Rattle.dpl_syntax.specs.declared.place.Place.{Place}
 use Rattle.dpl_history.specs.declared.history.Event.{Event}
 use Rattle.dpl_sets.specs.TextRanges.{TextRange}
-use Rattle.dpl_language.specs.Tree.{Op, ItemTree, ProgramTree, VariablesTree, WhileWord, OnWord, ForWord, ForallWord, CoforallWord, StmtTree, Nothing, Declare, Assigned, Call, Write, Block, If, Headed, Loop, Body, WordBody, BlockBody, Stmts, NoStmts, Then, Else, NoElse, ElseDo}
+use Rattle.dpl_language.specs.Tree.{Op, ExprTree, ItemTree, ProgramTree, VariablesTree, HeadWord, WhileWord, OnWord, ForWord, ForallWord, CoforallWord, StmtTree, Nothing, Declare, Assigned, Call, Write, Block, If, Headed, Loop, Body, WordBody, BlockBody, Stmts, NoStmts, Then, Else, NoElse, ElseDo}
 use Rattle.dpl_language.specs.Values.{Value, Index, Fault, fault, Budget}
 use Rattle.dpl_language.specs.Ranges.{indices_in, size_in, loop_ranges}
 use Rattle.dpl_language.specs.Outcome.{LoopRun, Deeds, no_deeds, with_loop, Outcome, Done, Stop, Waits, Run, with_value, then_do, choose, unless, in_order, repeated, naming}
@@ -15,12 +15,12 @@ use Rattle.dpl_language.specs.Expressions.{item_of}
 use Rattle.dpl_language.specs.Loops.{within_budget, named_turn, scoped, bound_to, turn_of}
 use Rattle.dpl_language.specs.Declarations.{declare}
 use Rattle.dpl_language.specs.Roots.{dealt}
-use Rattle.dpl_language.specs.Statements.{holds, exec, exec_body, exec_all, exec_else}
+use Rattle.dpl_language.specs.Statements.{holds, headed, exec, exec_body, exec_all, exec_else}
 use Rattle.dpl_language.specs.Names.{Text, State, by_name, recording}
 use Rattle.dpl_language.specs.Program.{first_state, deeds_of, settled, written, meaning}
-use Rattle.dpl_agreement.specs.Untasked.{UntaskedStmt, UntaskedBody, UntaskedStmts, UntaskedElse}
+use Rattle.dpl_agreement.specs.Untasked.{UntaskedHead, UntaskedStmt, UntaskedBody, UntaskedStmts, UntaskedElse}
 use Rattle.dpl_exchange.specs.Counts.{recorded}
-use Rattle.dpl_run.specs.Entered.{Entry, Entering, entered_behind, entered_with, entered_if, entered_never, entered_in_order, entered_within, entered_repeated, entered_inside, entered_turn, entered, entered_body, entered_all, entered_else}
+use Rattle.dpl_run.specs.Entered.{Entry, Entering, entered_behind, entered_with, entered_if, entered_never, entered_in_order, entered_within, entered_repeated, entered_inside, entered_turn, entered_head, entered, entered_body, entered_all, entered_else}
 use Rattle.dpl_run.specs.Recorded.{with_loops, on_record, loop_of, loops_of}
 use Rattle.dpl_run.proofs.RecordKept.{Keeps, then_do-kept, with_value-kept, naming-kept, assign-kept, cell_call-kept, write-kept, declare-kept}
 
@@ -135,6 +135,12 @@ module _ {N S : Type 0} (limits : Limits) (env : Environment N S) (loop : Place 
       (entered_inside limits silent (entered_body limits silent b))
   inside-recorded b p = scoped-recorded (exec_body limits noting b) (exec_body limits silent b) (entered_body limits silent b) p
 
+  -- behind a word and an expression, by the word
+  head-recorded : (word : HeadWord) (at : Place) (e : ExprTree N) (a b : Run S) (x : Entering N S) → UntaskedHead word → IsRecorded a b x
+      → IsRecorded (headed limits noting word at e a) (headed limits silent word at e b) (entered_head limits silent word e b x)
+  head-recorded WhileWord at e a b x u p = repeated-recorded noted limits.budget at (holds limits silent e) a b x p
+  head-recorded OnWord at e a b x u p = absurd u
+
   -- a loop's turns, and what is entered in them
   module _ (xs : VariablesTree N) (over : Value) (b : Body N) where
     abbrev noting_turn : Index → Run S
@@ -189,8 +195,7 @@ module _ {N S : Type 0} (limits : Limits) (env : Environment N S) (loop : Place 
     stmt-recorded (If at e first second) u s done loops =
         with_value-recorded noted (holds limits silent e s) _ _ _
         (λ t. choose-recorded noted t _ _ _ _ _ _ (inside-recorded first (body-recorded first u.1)) (else-recorded second u.2)) s done loops
-    stmt-recorded (Headed WhileWord at e body) u s done loops =
-        repeated-recorded noted limits.budget at (holds limits silent e) _ _ _ (inside-recorded body (body-recorded body u.1)) s done loops
+    stmt-recorded (Headed word at e body) u s done loops = head-recorded word at e _ _ _ u.2 (inside-recorded body (body-recorded body u.1)) s done loops
     stmt-recorded (Loop ForWord at xs within item intents body) u s done loops =
         with_value-recorded noted (item_of limits silent item None s) _ _ _
         (λ v. for-recorded xs v body at (loop_ranges limits.locales v) (body-recorded body u.1)) s done loops
@@ -198,7 +203,6 @@ module _ {N S : Type 0} (limits : Limits) (env : Environment N S) (loop : Place 
         with_value-recorded noted (item_of limits silent item None s) _ _ _
         (λ v. forall-recorded xs v body at (loop_ranges limits.locales v) item (intents_of intents) (body-recorded body u.1)) s done loops
     stmt-recorded (Loop CoforallWord at xs within item intents body) u s done loops = absurd u.2
-    stmt-recorded (Headed OnWord at e body) u s done loops = absurd u.2
 
     body-recorded : (b : Body N) → UntaskedBody b → IsRecordedBody b
     body-recorded (WordBody at t) u s done loops = stmt-recorded t u s done loops

@@ -4,7 +4,7 @@
 use Rattle.std.specs.Prelude.{ℕ, zero, suc, nat_lt, Bool, true, false, None, Result, Ok, Err, List, [], ◌∷◌, ◌++◌}
 use Rattle.dpl_syntax.specs.declared.place.Place.{Place}
 use Rattle.dpl_sets.specs.TextRanges.{TextRange}
-use Rattle.dpl_language.specs.Tree.{ItemTree, VariablesTree, WhileWord, OnWord, ForWord, ForallWord, CoforallWord, StmtTree, Nothing, Declare, Assigned, Call, Write, Block, If, Headed, Loop, Body, WordBody, BlockBody, Stmts, NoStmts, Then, Else, NoElse, ElseDo}
+use Rattle.dpl_language.specs.Tree.{ExprTree, ItemTree, VariablesTree, HeadWord, WhileWord, OnWord, ForWord, ForallWord, CoforallWord, StmtTree, Nothing, Declare, Assigned, Call, Write, Block, If, Headed, Loop, Body, WordBody, BlockBody, Stmts, NoStmts, Then, Else, NoElse, ElseDo}
 use Rattle.dpl_language.specs.Values.{Value, Index, Fault}
 use Rattle.dpl_language.specs.Ranges.{indices_in, size_in, loop_ranges}
 use Rattle.dpl_language.specs.Outcome.{Deeds, Outcome, Done, Stop, Waits, Run}
@@ -73,6 +73,11 @@ module _ {N S : Type 0} (limits : Limits) (env : Environment N S) where
   abbrev pub entered_turn : VariablesTree N → Value → Entering N S → Index → Entering N S
   entered_turn xs over entering t s done = entering (env.enter (bound_to env xs over t (env.enter s))) done
 
+  -- behind a word and an expression, of a body that is the run beside what it enters
+  abbrev pub entered_head : HeadWord → ExprTree N → Run S → Entering N S → Entering N S
+  entered_head WhileWord e body entering = entered_repeated limits.budget (holds limits env e) body entering
+  entered_head OnWord e body entering = entered_never
+
   abbrev mutual
     pub entered : StmtTree N → Entering N S
     entered (Nothing at) s done = []
@@ -83,8 +88,7 @@ module _ {N S : Type 0} (limits : Limits) (env : Environment N S) where
     entered (Block from body upto) s done = entered_inside (entered_all body) s done
     entered (If at e first second) s done =
         entered_with (holds limits env e s) (λ b. entered_if b (entered_inside (entered_body first)) (entered_else second)) s done
-    entered (Headed WhileWord at e body) s done =
-        entered_repeated limits.budget (holds limits env e) (scoped env (exec_body limits env body)) (entered_inside (entered_body body)) s done
+    entered (Headed word at e body) s done = entered_head word e (scoped env (exec_body limits env body)) (entered_inside (entered_body body)) s done
     entered (Loop ForWord at xs within item intents body) s done =
         entered_with (item_of limits env item None s)
         (λ v. entered_within limits (loop_ranges limits.locales v) (turn_of env xs v (exec_body limits env body)) (entered_turn xs v (entered_body body)))
@@ -95,7 +99,6 @@ module _ {N S : Type 0} (limits : Limits) (env : Environment N S) where
         ∷ entered_within limits (loop_ranges limits.locales v) (named_turn (turn_of env xs v (exec_body limits env body))) (entered_turn xs v (entered_body body))
         (env.intend (intents_of intents) s) (env.note at (loop_ranges limits.locales v) s done)) s done
     entered (Loop CoforallWord at xs within item intents body) s done = []
-    entered (Headed OnWord at e body) s done = []
 
     pub entered_body : Body N → Entering N S
     entered_body (WordBody at t) s done = entered t s done
