@@ -11,26 +11,30 @@ use Rattle.dpl_sets.specs.TextRanges.{TextRange}
 use Rattle.dpl_language.specs.Tree.{Op, IntKind, BoolKind, ExprTree, FirstItem, NoItems, FirstExpr, NoExprs}
 use Rattle.dpl_language.specs.Values.{Value, Int, Truth, Range, number, truth, kept_number, ranges_in, all_ranges, Index, index_of, Fault, fault, Budget}
 use Rattle.dpl_language.specs.Arithmetic.{tested_divisor}
-use Rattle.dpl_language.specs.Ranges.{indices_in, size_in, bounded, strided_by, range_sliced, contains_index, dimension, members_of_first, end_of, low_of, members_in, first_of, last_of, least_of, greatest_of}
+use Rattle.dpl_language.specs.Ranges.{indices_in, size_in, bounded, strided_by, range_sliced, contains_index, dimension, members_of_first, end_of, low_of, method_of, members_in, first_of, last_of, least_of, greatest_of}
 use Rattle.dpl_language.specs.Outcome.{with_ok, naming_value}
 use Rattle.dpl_language.specs.Environment.{Limits}
 use Rattle.dpl_language.specs.Expressions.{folded, fold_over, reduction, found, unless_decided, bracketed, whole_in, value_of, item_of, stridden, items_of, values_of}
 use Rattle.dpl_language.specs.Phrases.{Base, base_of}
-use Rattle.dpl_lowered.specs.Shapes.{nowhere}
-use Rattle.dpl_lowered.specs.LoweredExpressions.{EachTurn}
+use Rattle.dpl_lowered.specs.Shapes.{nowhere, kept}
+use Rattle.dpl_lowered.specs.LoweredExpressions.{EachTurn, is_end}
 use Rattle.dpl_words.specs.Words.{LeafKind, IntLeaf, TruthLeaf, RangeLeaf, no_range, IsOfKind}
 use Rattle.dpl_memory.specs.Memory.{Variable, Memory, element_as, array_at, held_at, in_memory}
+use Rattle.dpl_nodes.specs.declared.tree.RangeMethod.{RangeMethod}
+use Rattle.dpl_nodes.specs.declared.tree.RangeMethod.TheVariants as range_method
+use Rattle.dpl_nodes.specs.declared.tree.DomainMethod.{DomainMethod}
+use Rattle.dpl_nodes.specs.declared.tree.DomainMethod.TheVariants as domain_method
 use Rattle.dpl_nodes.specs.declared.tree.Comparison.{Comparison}
 use Rattle.dpl_nodes.specs.declared.tree.Comparison.TheVariants as comparison
 use Rattle.dpl_nodes.specs.declared.fold.IntFold.{IntFold}
 use Rattle.dpl_nodes.specs.declared.fold.IntFold.TheVariants as ints
 use Rattle.dpl_nodes.specs.declared.fold.TruthFold.{TruthFold}
 use Rattle.dpl_nodes.specs.declared.fold.TruthFold.TheVariants as truths
-use Rattle.dpl_nodes.specs.declared.tree.IntExpr.{IntExpr, Number as NumberNode, Local as IntLocal, Negative', Sum', Difference', Product', Quotient', Remainder', First', Last', Low', High', Element', Reduced' as IntReduced'}
+use Rattle.dpl_nodes.specs.declared.tree.IntExpr.{IntExpr, Number as NumberNode, Local as IntLocal, Negative', Sum', Difference', Product', Quotient', Remainder', OfRange', OfDomain', Element', Reduced' as IntReduced'}
 use Rattle.dpl_nodes.specs.declared.tree.BoolExpr.{BoolExpr, Truth as TruthNode, Local as TruthLocal, Not', And', Or', Same', Differ', Compare as CompareNode, Contains as ContainsNode, HasIndex as HasIndexNode, Element as TruthElement, Reduced' as TruthReduced'}
 use Rattle.dpl_nodes.specs.declared.tree.RangeExpr.{RangeExpr, Local as RangeLocal, Between', Slice', Dimension'}
 use Rattle.dpl_nodes.specs.declared.tree.Stride.{Stride as StrideNode, Absent, By'}
-use Rattle.dpl_nodes.specs.Typed.{comparison_view, dots_view, int_view, truth_view, range_view, range_item, stride_view, index_items, index_exprs, domain_view, promoted_int, promoted_truth, int_fold_view, truth_fold_view}
+use Rattle.dpl_nodes.specs.Typed.{comparison_view, dots_view, range_word, domain_word, int_view, truth_view, range_view, range_item, stride_view, index_items, index_exprs, domain_view, promoted_int, promoted_truth, int_fold_view, truth_fold_view}
 
 -- a value of a kind, or a fault
 abbrev pub Gives : LeafKind → Result Value Fault → Type 0
@@ -87,6 +91,18 @@ ended at end (Err e) = tt
 least : (at : Place) (r : Result Value Fault) → Gives RangeLeaf r → Gives IntLeaf (with_ok r (λ v. with_ok (low_of at v) (λ w. Ok w)))
 least at (Ok v) (x, e) = subst (λ v. Gives IntLeaf (with_ok (low_of at v) (λ w. Ok w))) (sym e) (end-gives at least_of (members_in x))
 least at (Err e) h = tt
+
+-- the methods of a range and of a domain
+of_range : (m : RangeMethod) (at : Place) (r : Result Value Fault) → Gives RangeLeaf r
+    → Gives IntLeaf (with_ok r (λ v. with_ok (method_of (range_word m) (kept (is_end (range_word m)) at) v) (λ w. Ok w)))
+of_range range_method.Size at r h = int_one (λ v. pos (size_in (ranges_in v))) r
+of_range range_method.First at r h = ended at first_of r
+of_range range_method.Last at r h = ended at last_of r
+of_range range_method.Low at r h = least at r h
+of_range range_method.High at r h = ended at greatest_of r
+
+of_domain : (m : DomainMethod) (r : Result Value Fault) → Gives IntLeaf (with_ok r (λ v. with_ok (method_of (domain_word m) nowhere v) (λ w. Ok w)))
+of_domain domain_method.Size r = int_one (λ v. pos (size_in (ranges_in v))) r
 
 contained : (f : Value → List Value → Bool) (r : Result Value Fault) (q : Result (List Value) Fault) → Gives TruthLeaf (with_ok r (λ v. with_ok (with_ok q (λ vs. Ok (Truth (f v vs)))) (λ w. Ok w)))
 contained f (Ok v) (Ok vs) = (f v vs, refl)
@@ -203,17 +219,14 @@ module _ (limits : Limits) (s : Memory) where
   int_gives (Product' p a q b) = int_two (λ v w. wrap (number v *ℤ number w)) (value (int_view a)) (value (int_view b)) false nowhere
   int_gives (Quotient' p a q b at) = int_two (λ v w. wrap (int_div (number v) (number w))) (value (int_view a)) (value (int_view b)) true at.now
   int_gives (Remainder' p a q b at) = int_two (λ v w. wrap (int_rem (number v) (number w))) (value (int_view a)) (value (int_view b)) true at.now
-  int_gives (First' p r at) = ended at.now first_of (value (range_view r))
-  int_gives (Last' p r at) = ended at.now last_of (value (range_view r))
-  int_gives (Low' p r at) = least at.now (value (range_view r)) (range_gives r)
-  int_gives (High' p r at) = ended at.now greatest_of (value (range_view r))
+  int_gives (OfRange' m p r at) = of_range m at.now (value (range_view r)) (range_gives r)
+  int_gives (OfDomain' m p d) = of_domain m (value (domain_view d))
   int_gives (Element' slot p t at) =
       elements IntLeaf (λ vs. found at.now (option_map (element_as IntKind) (held_at (index_of vs) (array_at slot s))))
       (λ vs. int_found at.now (held_at (index_of vs) (array_at slot s))) (items_of limits in_memory (index_items t) s)
   int_gives (IntReduced' f p e at) =
       reduction-gives IntLeaf (int_fold_view f) (int_unit f) (ints_combined f) limits.budget at.now (λ t. value_of limits in_memory (promoted_int EachTurn e) (Some t) s)
       (whole_in limits in_memory (promoted_int EachTurn e) s)
-  int_gives _ = int_one _ _
 
   pub item_gives : (e : RangeExpr) → Gives RangeLeaf (item_of limits in_memory (range_item e) None s)
   item_gives (RangeLocal slot) = range_gives (RangeLocal slot)

@@ -4,7 +4,7 @@ use Rattle.std.proofs.Common.{◌≡◌, Option, Some, None, refl}
 use Rattle.dpl_language.specs.Tree.{Placed}
 use Rattle.dpl_language.specs.Phrases.{bare_name, read_by, cell_read, item_read}
 use Rattle.dpl_memory.specs.Memory.{Variable}
-use Rattle.dpl_nodes.specs.declared.tree.IntExpr.{IntExpr, Size', First', Last', Low', High', Count'}
+use Rattle.dpl_nodes.specs.declared.tree.IntExpr.{IntExpr, OfRange', OfDomain'}
 use Rattle.dpl_nodes.specs.declared.tree.BoolExpr.{BoolExpr, Contains, HasIndex}
 use Rattle.dpl_nodes.specs.declared.tree.RangeExpr.{RangeExpr, Local as RangeLocal, Between', Slice', Dimension'}
 use Rattle.dpl_nodes.specs.declared.tree.DomainExpr.{DomainExpr, Slice' as DomainSlice', Expanded'}
@@ -15,12 +15,8 @@ read_by-none None = refl
 read_by-none (Some x) = refl
 
 pub cell_read-int : (e : IntExpr) → cell_read (int_view e) ≡ None
-cell_read-int (Size' p r) = read_by-none (bare_name (range_view r))
-cell_read-int (First' p r at) = read_by-none (bare_name (range_view r))
-cell_read-int (Last' p r at) = read_by-none (bare_name (range_view r))
-cell_read-int (Low' p r at) = read_by-none (bare_name (range_view r))
-cell_read-int (High' p r at) = read_by-none (bare_name (range_view r))
-cell_read-int (Count' p d) = read_by-none (bare_name (domain_view d))
+cell_read-int (OfRange' m p r at) = read_by-none (bare_name (range_view r))
+cell_read-int (OfDomain' m p d) = read_by-none (bare_name (domain_view d))
 cell_read-int _ = refl
 
 pub cell_read-truth : (e : BoolExpr) → cell_read (truth_view e) ≡ None

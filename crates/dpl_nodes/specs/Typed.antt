@@ -2,15 +2,19 @@
 -- It is a lowered tree over slots: two operands to an operator, no brackets, and the places of faults alone.
 use Rattle.std.specs.Prelude.{ℕ}
 use Rattle.dpl_syntax.specs.declared.place.Place.{Place}
-use Rattle.dpl_language.specs.Tree.{Kind, IntKind, BoolKind, Minus, Not, Infix, Add, Subtract, Multiply, Divide, Remainder, Less, LessEqual, Greater, GreaterEqual, Equal, NotEqual, And, Or, Dots, Closed, HalfOpen, Counted, Size, First, Last, Low, High, DomainOf, Op, Sum, Product, AllOf, AnyOf, BitAnd, BitOr, BitXor, Least, Greatest, ExprTree, Number, TruthWord, Named, Grouped, DomainLiteral, Prefixed, Reduced, Postfixed, ItemTree, One, RangeItem, Stride, NoStride, By, NoPosts, Post, Brackets, Dotted, MethodTree, Plainly, Dim, Contains, Expand, Items, FirstItem, NoItems, NextItem, Exprs, FirstExpr, NoExprs, NextExpr}
+use Rattle.dpl_language.specs.Tree.{Kind, IntKind, BoolKind, Minus, Not, Infix, Add, Subtract, Multiply, Divide, Remainder, Less, LessEqual, Greater, GreaterEqual, Equal, NotEqual, And, Or, Dots, Closed, HalfOpen, Counted, Word, Size, First, Last, Low, High, DomainOf, Op, Sum, Product, AllOf, AnyOf, BitAnd, BitOr, BitXor, Least, Greatest, ExprTree, Number, TruthWord, Named, Grouped, DomainLiteral, Prefixed, Reduced, Postfixed, ItemTree, One, RangeItem, Stride, NoStride, By, NoPosts, Post, Brackets, Dotted, MethodTree, Plainly, Dim, Contains, Expand, Items, FirstItem, NoItems, NextItem, Exprs, FirstExpr, NoExprs, NextExpr}
 use Rattle.dpl_lowered.specs.Shapes.{nowhere, kept, two}
-use Rattle.dpl_lowered.specs.LoweredExpressions.{Times, EachTurn, each_turn}
+use Rattle.dpl_lowered.specs.LoweredExpressions.{Times, EachTurn, each_turn, is_end}
 use Rattle.dpl_memory.specs.Memory.{DomainKind, TupleKind, ArrayKind, Variable, variable, int_leaf, truth_leaf, range_leaf}
 use Rattle.dpl_nodes.specs.declared.tree.Dots.{Dots as DotsNode}
 use Rattle.dpl_nodes.specs.declared.tree.Dots.TheVariants as dots
+use Rattle.dpl_nodes.specs.declared.tree.RangeMethod.{RangeMethod}
+use Rattle.dpl_nodes.specs.declared.tree.RangeMethod.TheVariants as range_method
+use Rattle.dpl_nodes.specs.declared.tree.DomainMethod.{DomainMethod}
+use Rattle.dpl_nodes.specs.declared.tree.DomainMethod.TheVariants as domain_method
 use Rattle.dpl_nodes.specs.declared.tree.Comparison.{Comparison}
 use Rattle.dpl_nodes.specs.declared.tree.Comparison.TheVariants as comparison
-use Rattle.dpl_nodes.specs.declared.tree.IntExpr.{IntExpr, Number as NumberNode, Local as IntLocal, Negative', Sum', Difference', Product', Quotient', Remainder', Size', First', Last', Low', High', Count', Element', Reduced' as IntReduced'}
+use Rattle.dpl_nodes.specs.declared.tree.IntExpr.{IntExpr, Number as NumberNode, Local as IntLocal, Negative', Sum', Difference', Product', Quotient', Remainder', OfRange', OfDomain', Element', Reduced' as IntReduced'}
 use Rattle.dpl_nodes.specs.declared.tree.BoolExpr.{BoolExpr, Truth as TruthNode, Local as TruthLocal, Not', And', Or', Same', Differ', Compare as CompareNode, Contains as ContainsNode, HasIndex as HasIndexNode, Element as TruthElement, Reduced' as TruthReduced'}
 use Rattle.dpl_nodes.specs.declared.tree.RangeExpr.{RangeExpr, Local as RangeLocal, Between', Slice', Dimension'}
 use Rattle.dpl_nodes.specs.declared.tree.Stride.{Stride as StrideNode, Absent, By'}
@@ -69,6 +73,16 @@ dots_view dots.Closed = Closed
 dots_view dots.HalfOpen = HalfOpen
 dots_view dots.Counted = Counted nowhere
 
+abbrev pub range_word : RangeMethod → Word
+range_word range_method.Size = Size
+range_word range_method.First = First
+range_word range_method.Last = Last
+range_word range_method.Low = Low
+range_word range_method.High = High
+
+abbrev pub domain_word : DomainMethod → Word
+domain_word domain_method.Size = Size
+
 abbrev pub comparison_view : Comparison → Infix
 comparison_view comparison.Equal = Equal
 comparison_view comparison.Unequal = NotEqual
@@ -104,12 +118,8 @@ abbrev mutual
   int_view (Product' p a q b) = two (int_view a) nowhere Multiply (int_view b)
   int_view (Quotient' p a q b at) = two (int_view a) at.now Divide (int_view b)
   int_view (Remainder' p a q b at) = two (int_view a) at.now Remainder (int_view b)
-  int_view (Size' p r) = dotted (range_view r) (Plainly nowhere Size)
-  int_view (First' p r at) = dotted (range_view r) (Plainly at.now First)
-  int_view (Last' p r at) = dotted (range_view r) (Plainly at.now Last)
-  int_view (Low' p r at) = dotted (range_view r) (Plainly at.now Low)
-  int_view (High' p r at) = dotted (range_view r) (Plainly at.now High)
-  int_view (Count' p d) = dotted (domain_view d) (Plainly nowhere Size)
+  int_view (OfRange' m p r at) = dotted (range_view r) (Plainly (kept (is_end (range_word m)) at.now) (range_word m))
+  int_view (OfDomain' m p d) = dotted (domain_view d) (Plainly nowhere (domain_word m))
   int_view (Element' slot p t at) = in_square (array_named IntKind slot at.now) (index_items t)
   int_view (IntReduced' f p e at) = Reduced nowhere (int_fold_view f) at.now (promoted_int EachTurn e)
 

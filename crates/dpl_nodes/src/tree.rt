@@ -13,6 +13,22 @@ pub enum Dots {
     Counted,
 }
 
+/// A method of a range that gives an int: how many members it has, an end of its sequence, or its least or greatest member.
+#[derive(Clone, Copy, PartialEq, Eq, Debug)]
+pub enum RangeMethod {
+    Size,
+    First,
+    Last,
+    Low,
+    High,
+}
+
+/// A method of a domain that gives an int: how many indices it has.
+#[derive(Clone, Copy, PartialEq, Eq, Debug)]
+pub enum DomainMethod {
+    Size,
+}
+
 /// An expression that is an int.
 #[cycle(typed)]
 #[derive(Clone, Copy)]
@@ -27,15 +43,10 @@ pub enum IntExpr<'t> {
     /// With the place where a division by zero is told.
     Quotient(&'t IntExpr<'t>, &'t IntExpr<'t>, &'t Spot),
     Remainder(&'t IntExpr<'t>, &'t IntExpr<'t>, &'t Spot),
-    /// How many members a range has.
-    Size(&'t RangeExpr<'t>),
-    /// An end of a range, with the place where it is told that there is none.
-    First(&'t RangeExpr<'t>, &'t Spot),
-    Last(&'t RangeExpr<'t>, &'t Spot),
-    Low(&'t RangeExpr<'t>, &'t Spot),
-    High(&'t RangeExpr<'t>, &'t Spot),
-    /// How many indices a domain has.
-    Count(&'t DomainExpr<'t>),
+    /// A method of a range, with the place where it is told that there is no end.
+    OfRange(RangeMethod, &'t RangeExpr<'t>, &'t Spot),
+    /// A method of a domain.
+    OfDomain(DomainMethod, &'t DomainExpr<'t>),
     /// An element of the array in a slot, with the place where an index outside it is told.
     Element(usize, &'t IndexExpr<'t>, &'t Spot),
     /// The ints at all indices put together, with the place of `reduce`, where it is told that they are too many.
