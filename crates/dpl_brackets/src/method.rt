@@ -16,7 +16,7 @@ ghost use Rattle.dpl_typed.specs.Typed.{types_of, is_rank};
 ghost use Rattle.dpl_typed.specs.Stands.{StandsFor};
 ghost use Rattle.dpl_typed.specs.Told.{Judges};
 
-use dpl_nodes::{DomainExpr, IntExpr, RangeExpr};
+use dpl_nodes::{DomainExpr, DomainMethod, IntExpr, RangeExpr, RangeMethod};
 use dpl_scopes::Over;
 use dpl_syntax::{Breach, Place};
 use dpl_tree::{Arena, ScalarKind, Word};
@@ -40,11 +40,11 @@ fn of_range<'t>(
         return Err(AllocError);
     };
     match word {
-        Word::Size => int(arena, IntExpr::Size(base)),
-        Word::First => int(arena, IntExpr::First(base, end)),
-        Word::Last => int(arena, IntExpr::Last(base, end)),
-        Word::Low => int(arena, IntExpr::Low(base, end)),
-        Word::High => int(arena, IntExpr::High(base, end)),
+        Word::Size => int(arena, IntExpr::OfRange(RangeMethod::Size, base, end)),
+        Word::First => int(arena, IntExpr::OfRange(RangeMethod::First, base, end)),
+        Word::Last => int(arena, IntExpr::OfRange(RangeMethod::Last, base, end)),
+        Word::Low => int(arena, IntExpr::OfRange(RangeMethod::Low, base, end)),
+        Word::High => int(arena, IntExpr::OfRange(RangeMethod::High, base, end)),
         Word::LowBound | Word::DomainOf | Word::Id => Ok(mistyped(at, first)),
     }
 }
@@ -61,7 +61,7 @@ fn of_domain<'t>(
     ensures node { IfOk result (λ r. StandsFor r (λ m. dotted (domain_view base.now) (Plainly (kept (is_end word) at) word))) }
 {
     match word {
-        Word::Size => int(arena, IntExpr::Count(base)),
+        Word::Size => int(arena, IntExpr::OfDomain(DomainMethod::Size, base)),
         Word::First
         | Word::Last
         | Word::Low
