@@ -25,12 +25,8 @@ pub(crate) fn may_int(e: &IntExpr<'_>, rules: &TurnRules<'_>) -> bool
         IntExpr::Product(a, b) => may_int(a, rules) && may_int(b, rules),
         IntExpr::Quotient(a, b, _) => may_int(a, rules) && may_int(b, rules),
         IntExpr::Remainder(a, b, _) => may_int(a, rules) && may_int(b, rules),
-        IntExpr::Size(r) => may_range(r, rules),
-        IntExpr::First(r, _) => may_range(r, rules),
-        IntExpr::Last(r, _) => may_range(r, rules),
-        IntExpr::Low(r, _) => may_range(r, rules),
-        IntExpr::High(r, _) => may_range(r, rules),
-        IntExpr::Count(d) => may_domain(d, rules),
+        IntExpr::OfRange(_, r, _) => may_range(r, rules),
+        IntExpr::OfDomain(_, d) => may_domain(d, rules),
         IntExpr::Element(slot, index, _) => {
             rules.may_read_at(*slot, index) && may_index(index, rules)
         }

@@ -54,23 +54,11 @@ may_int-returns-then-may_int-4 t c h = subst (OfInt c.args.rules.now) (sym c.in-
 pub may_int-returns-then-may_int-5 : goal.may_int-returns-then-may_int-5
 may_int-returns-then-may_int-5 t c h = subst (OfInt c.args.rules.now) (sym c.in-Remainder.is) (λ i. (c.may_int-in-Remainder.ensures c.if-may_int-5.true i, (c.may_int-then-may_int-5.ensures h i, tt)))
 
-pub may_int-returns-in-Size : goal.may_int-returns-in-Size
-may_int-returns-in-Size t c h = subst (OfInt c.args.rules.now) (sym c.in-Size.is) (λ i. (range-fits (changes_by c.args.rules.now) (own_in c.args.rules.now) i c.in-Size.r.now (c.may_range.ensures h i), (tt, tt)))
+pub may_int-returns-in-OfRange : goal.may_int-returns-in-OfRange
+may_int-returns-in-OfRange t c h = subst (OfInt c.args.rules.now) (sym c.in-OfRange.is) (λ i. (range-fits (changes_by c.args.rules.now) (own_in c.args.rules.now) i c.in-OfRange.r.now (c.may_range.ensures h i), (tt, tt)))
 
-pub may_int-returns-in-First : goal.may_int-returns-in-First
-may_int-returns-in-First t c h = subst (OfInt c.args.rules.now) (sym c.in-First.is) (λ i. (range-fits (changes_by c.args.rules.now) (own_in c.args.rules.now) i c.in-First.r.now (c.may_range-in-First.ensures h i), (tt, tt)))
-
-pub may_int-returns-in-Last : goal.may_int-returns-in-Last
-may_int-returns-in-Last t c h = subst (OfInt c.args.rules.now) (sym c.in-Last.is) (λ i. (range-fits (changes_by c.args.rules.now) (own_in c.args.rules.now) i c.in-Last.r.now (c.may_range-in-Last.ensures h i), (tt, tt)))
-
-pub may_int-returns-in-Low : goal.may_int-returns-in-Low
-may_int-returns-in-Low t c h = subst (OfInt c.args.rules.now) (sym c.in-Low.is) (λ i. (range-fits (changes_by c.args.rules.now) (own_in c.args.rules.now) i c.in-Low.r.now (c.may_range-in-Low.ensures h i), (tt, tt)))
-
-pub may_int-returns-in-High : goal.may_int-returns-in-High
-may_int-returns-in-High t c h = subst (OfInt c.args.rules.now) (sym c.in-High.is) (λ i. (range-fits (changes_by c.args.rules.now) (own_in c.args.rules.now) i c.in-High.r.now (c.may_range-in-High.ensures h i), (tt, tt)))
-
-pub may_int-returns-in-Count : goal.may_int-returns-in-Count
-may_int-returns-in-Count t c h = subst (OfInt c.args.rules.now) (sym c.in-Count.is) (λ i. (c.may_domain.ensures h i, (tt, tt)))
+pub may_int-returns-in-OfDomain : goal.may_int-returns-in-OfDomain
+may_int-returns-in-OfDomain t c h = subst (OfInt c.args.rules.now) (sym c.in-OfDomain.is) (λ i. (c.may_domain.ensures h i, (tt, tt)))
 
 pub may_int-returns-then-may_read_at : goal.may_int-returns-then-may_read_at
 may_int-returns-then-may_read_at t c h = subst (OfInt c.args.rules.now) (sym c.in-Element.is) (λ i. (refl, ((c.may_index.ensures h i, c.may_read_at.ensures c.if-may_read_at.true), tt)))
