@@ -4,7 +4,8 @@ use Rattle.std.proofs.Common.{ℕ, pos}
 use Rattle.dpl_map.specs.Maps.{owner}
 use Rattle.dpl_memory.specs.Memory.{array_at}
 use Rattle.dpl_nodes.specs.declared.fold.IntFold.TheVariants.{Sum}
-use Rattle.dpl_nodes.specs.declared.tree.IntExpr.{Number, Sum', Size', Reduced'}
+use Rattle.dpl_nodes.specs.declared.tree.RangeMethod.TheVariants.{Size}
+use Rattle.dpl_nodes.specs.declared.tree.IntExpr.{Number, Sum', OfRange', Reduced'}
 use Rattle.dpl_nodes.specs.declared.tree.RangeExpr.{Between'}
 use Rattle.dpl_nodes.specs.declared.tree.Stride.{Absent}
 use Rattle.dpl_nodes.specs.declared.tree.Dots.TheVariants.{Closed}
@@ -29,8 +30,8 @@ module _ (may : ℕ → ℕ → Type 0) (f : Framed) where
   open-row p q r at from none (some, asked) = asked (tt, (none, tt))
 
   -- and so may `(1..+ reduce A).size`, behind a bound
-  bound-row : (o p q r at from dots : _) → (entry_of_A → ⊥) → MayRefuseReduction may f (EachInInt (Size' o (Between' p (Number (pos 1)) dots Closed q (Reduced' Sum r (Element 3 at) from) Absent))) → ⊥
-  bound-row o p q r at from dots none (some, asked) = asked (tt, (none, tt), tt)
+  bound-row : (o p q r at from dots name : _) → (entry_of_A → ⊥) → MayRefuseReduction may f (EachInInt (OfRange' Size o (Between' p (Number (pos 1)) dots Closed q (Reduced' Sum r (Element 3 at) from) Absent) name)) → ⊥
+  bound-row o p q r at from dots name none (some, asked) = asked (tt, (none, tt), tt)
 
   -- a reduction of no array, which no checked program has, asks nothing by itself
   scalar-row : (p r from : _) → MayRefuseReduction may f (EachInInt (Reduced' Sum p (Scalar' r (Number (pos 1))) from)) → ⊥

@@ -3,14 +3,16 @@
 use Rattle.std.specs.Prelude.{ℕ, ℤ, List, None, Some, Result, Ok}
 use Rattle.dpl_syntax.specs.declared.place.Place.{Place}
 use Rattle.dpl_sets.specs.TextRanges.{TextRange}
-use Rattle.dpl_language.specs.Tree.{Word, Plainly, Size, Contains, FirstExpr, NoExprs}
+use Rattle.dpl_language.specs.Tree.{Plainly, Contains, FirstExpr, NoExprs}
 use Rattle.dpl_language.specs.Values.{Value, Domain, Index, Fault, all_ranges, index_of}
 use Rattle.dpl_language.specs.Ranges.{sized, all_sliced}
 use Rattle.dpl_language.specs.Outcome.{with_ok}
 use Rattle.dpl_language.specs.Expressions.{value_of, item_of, items_of, values_of, stridden}
-use Rattle.dpl_lowered.specs.Shapes.{nowhere}
-use Rattle.dpl_lowered.specs.LoweredExpressions.{EachTurn}
+use Rattle.dpl_lowered.specs.Shapes.{nowhere, kept}
+use Rattle.dpl_lowered.specs.LoweredExpressions.{EachTurn, is_end}
 use Rattle.dpl_memory.specs.Memory.{array_at, held_at, in_memory}
+use Rattle.dpl_nodes.specs.declared.tree.RangeMethod.{RangeMethod}
+use Rattle.dpl_nodes.specs.declared.tree.DomainMethod.{DomainMethod}
 use Rattle.dpl_nodes.specs.declared.tree.IntExpr.{IntExpr}
 use Rattle.dpl_nodes.specs.declared.tree.BoolExpr.{BoolExpr}
 use Rattle.dpl_nodes.specs.declared.tree.RangeExpr.{RangeExpr}
@@ -20,7 +22,7 @@ use Rattle.dpl_nodes.specs.declared.tree.DomainExpr.{DomainExpr}
 use Rattle.dpl_nodes.specs.declared.tree.IndexExpr.{IndexExpr}
 use Rattle.dpl_nodes.specs.declared.tree.PromotedInt.{PromotedInt}
 use Rattle.dpl_nodes.specs.declared.tree.PromotedTruth.{PromotedTruth}
-use Rattle.dpl_nodes.specs.Typed.{int_view, truth_view, range_item, range_view, stride_view, dotted, ranges_items, index_items, index_exprs, domain_view, promoted_int, promoted_truth}
+use Rattle.dpl_nodes.specs.Typed.{range_word, domain_word, int_view, truth_view, range_item, range_view, stride_view, dotted, ranges_items, index_items, index_exprs, domain_view, promoted_int, promoted_truth}
 use Rattle.dpl_frame.specs.Frames.{Framed}
 use Rattle.dpl_values.specs.Elements.{word_found}
 
@@ -39,17 +41,17 @@ module _ (f : Framed) where
   abbrev pub has_index_in : DomainExpr → IndexExpr → Result Value Fault
   has_index_in d t = value_of f.limits in_memory (dotted (domain_view d) (Contains nowhere nowhere (index_exprs t) nowhere)) None f.memory
 
-  -- a range; what its stride makes of its bounds; and a method of it without arguments, by the place of its name
+  -- a range; what its stride makes of its bounds; and a method of it, with the place where it is told that there is no end
   abbrev pub range_in : RangeExpr → Result Value Fault
   range_in r = item_of f.limits in_memory (range_item r) None f.memory
 
   abbrev pub strided_in : Stride → Result TextRange Fault → Result Value Fault
   strided_in stride bounds = stridden f.limits in_memory (stride_view stride) bounds f.memory
 
-  abbrev pub range_end : RangeExpr → Place → Word → Result Value Fault
-  range_end r at method = value_of f.limits in_memory (dotted (range_view r) (Plainly at method)) None f.memory
+  abbrev pub range_method_in : RangeMethod → RangeExpr → Place → Result Value Fault
+  range_method_in m r at = value_of f.limits in_memory (dotted (range_view r) (Plainly (kept (is_end (range_word m)) at) (range_word m))) None f.memory
 
-  -- a domain: as it is written, by its ranges, cut by ranges; and how many indices it has
+  -- a domain: as it is written, by its ranges, cut by ranges; and a method of it
   abbrev pub domain_in : DomainExpr → Result Value Fault
   domain_in d = value_of f.limits in_memory (domain_view d) None f.memory
 
@@ -59,8 +61,8 @@ module _ (f : Framed) where
   abbrev pub sliced_in : List TextRange → RangesExpr → Result Value Fault
   sliced_in domain ranges = with_ok (items_of f.limits in_memory (ranges_items ranges) f.memory) (λ vs. Ok (Domain (all_sliced domain (all_ranges vs))))
 
-  abbrev pub domain_size : DomainExpr → Result Value Fault
-  domain_size d = value_of f.limits in_memory (dotted (domain_view d) (Plainly nowhere Size)) None f.memory
+  abbrev pub domain_method_in : DomainMethod → DomainExpr → Result Value Fault
+  domain_method_in m d = value_of f.limits in_memory (dotted (domain_view d) (Plainly nowhere (domain_word m))) None f.memory
 
   -- an index, and the word of the element at it of the array in a slot
   abbrev pub index_in : IndexExpr → Result Index Fault

@@ -2,7 +2,7 @@
 -- An entry of a reduction is that of the owner of an index of its array, with the place of the index.
 use Rattle.std.specs.Prelude.{ℕ, Option, Some, None}
 use Rattle.dpl_memory.specs.Memory.{array_at}
-use Rattle.dpl_nodes.specs.declared.tree.IntExpr.{IntExpr, Number, Local as IntLocal, Negative', Sum', Difference', Product', Quotient', Remainder', Size', First', Last', Low', High', Count', Element', Reduced' as IntReduced'}
+use Rattle.dpl_nodes.specs.declared.tree.IntExpr.{IntExpr, Number, Local as IntLocal, Negative', Sum', Difference', Product', Quotient', Remainder', OfRange', OfDomain', Element', Reduced' as IntReduced'}
 use Rattle.dpl_nodes.specs.declared.tree.BoolExpr.{BoolExpr, Truth, Local as TruthLocal, Not', And', Or', Same', Differ', Compare, Contains, HasIndex, Element as TruthElement, Reduced' as TruthReduced'}
 use Rattle.dpl_nodes.specs.declared.tree.RangeExpr.{RangeExpr, Local as RangeLocal, Between', Slice', Dimension'}
 use Rattle.dpl_nodes.specs.declared.tree.Stride.{Stride, Absent, By'}
@@ -31,12 +31,8 @@ abbrev mutual
   EachInInt (Product' p a q b) Holds = EachInInt a Holds × EachInInt b Holds
   EachInInt (Quotient' p a q b at) Holds = EachInInt a Holds × EachInInt b Holds
   EachInInt (Remainder' p a q b at) Holds = EachInInt a Holds × EachInInt b Holds
-  EachInInt (Size' p r) Holds = EachInRange r Holds
-  EachInInt (First' p r at) Holds = EachInRange r Holds
-  EachInInt (Last' p r at) Holds = EachInRange r Holds
-  EachInInt (Low' p r at) Holds = EachInRange r Holds
-  EachInInt (High' p r at) Holds = EachInRange r Holds
-  EachInInt (Count' p d) Holds = EachInDomain d Holds
+  EachInInt (OfRange' m p r at) Holds = EachInRange r Holds
+  EachInInt (OfDomain' m p d) Holds = EachInDomain d Holds
   EachInInt (Element' slot p t at) Holds = EachInIndex t Holds
   EachInInt (IntReduced' f p e at) Holds = OfSlot (first_of_ints e) Holds × EachInInts e Holds
 

@@ -1,13 +1,16 @@
-// What is found at an index, and domains that have to be small enough.
+// What is found at an index, domains that have to be small enough, and methods of domains.
 // None of them looks at a frame.
 
-ghost use Rattle.std.specs.Prelude.{◌≡◌, false};
-ghost use Rattle.dpl_language.specs.Ranges.{too_many};
+ghost use Rattle.std.specs.Prelude.{◌≡◌, false, Ok};
+ghost use Rattle.dpl_language.specs.Values.{Int, Domain};
+ghost use Rattle.dpl_language.specs.Ranges.{too_many, method_of};
+ghost use Rattle.dpl_lowered.specs.Shapes.{nowhere};
+ghost use Rattle.dpl_nodes.specs.Typed.{domain_word};
 ghost use Rattle.dpl_frame.specs.Faults.{Tells};
 ghost use Rattle.dpl_values.specs.Elements.{word_found, sized_or};
 
 use dpl_frame::{Alarm, DomainWord, FaultCode, Turn};
-use dpl_nodes::Spot;
+use dpl_nodes::{DomainMethod, Spot};
 
 /// The word that was found at an index.
 ///
@@ -48,4 +51,13 @@ pub fn small(domain: DomainWord) -> DomainWord
     // Nothing is read here: that the domain is small enough is a clause of this call.
     let _ = domain.size();
     domain
+}
+
+/// What a method of a domain gives.
+pub(crate) fn domain_method(method: DomainMethod, domain: DomainWord) -> i64
+    ensures { method_of (domain_word method) nowhere (Domain domain) ≡ Ok (Int result) }
+{
+    match method {
+        DomainMethod::Size => domain.size() as i64,
+    }
 }

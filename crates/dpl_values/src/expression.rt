@@ -3,24 +3,25 @@
 
 ghost use Rattle.std.specs.Prelude.{None, Ok};
 ghost use Rattle.dpl_language.specs.Values.{Int, Truth as TruthValue, Domain as DomainValue};
-ghost use Rattle.dpl_language.specs.Tree.{Size, First, Last, Low, High};
-ghost use Rattle.dpl_lowered.specs.Shapes.{nowhere};
 ghost use Rattle.dpl_frame.specs.Faults.{Tells, as_range};
 ghost use Rattle.dpl_values.specs.Bounds.{bounds_of};
 ghost use Rattle.dpl_values.specs.Reductions.{MayRefuseReduction, EachInInt, EachInTruth, EachInContained, EachInHasIndex};
 ghost use Rattle.dpl_values.specs.Reductions.{EachInRange, EachInStride, EachInRanges, EachInIndex, EachInDomain};
-ghost use Rattle.dpl_values.specs.Meanings.{int_in, truth_in, contained_in, has_index_in, range_in, strided_in, domain_in, index_in, element_in, literal_in, sliced_in, range_end, domain_size};
+ghost use Rattle.dpl_values.specs.Meanings.{int_in, truth_in, contained_in, has_index_in, range_in, strided_in, domain_in, index_in, element_in, literal_in, sliced_in, range_method_in, domain_method_in};
 
 use crate::comparison::holds;
-use crate::domain::{found, sized, small};
-use crate::range::{Written, bounded, contains, first, high, last, low, size, strided_by};
+use crate::domain::{domain_method, found, sized, small};
+use crate::range::{Written, bounded, contains, range_method, strided_by};
 use crate::reduction::{reduced_int, reduced_truth};
 use crate::team::Team;
 use dpl_arithmetic::index::{coordinate, plane, space};
 use dpl_arithmetic::number::{difference, negative, product, quotient, remainder, sum};
 use dpl_domain::Index;
 use dpl_frame::{Alarm, DomainWord, FaultCode, Frame, RangeWord, Truth, Turn};
-use dpl_nodes::{BoolExpr, DomainExpr, IndexExpr, IntExpr, RangeExpr, RangesExpr, Spot, Stride};
+use dpl_nodes::{
+    BoolExpr, DomainExpr, DomainMethod, IndexExpr, IntExpr, RangeExpr, RangeMethod, RangesExpr,
+    Spot, Stride,
+};
 
 // An operand: a leaf at once, and else by a walk.
 #[cycle(walk)]
@@ -118,38 +119,20 @@ pub(crate) fn int_value<G: Team>(
             }
             Ok(remainder(left, right))
         }
-        IntExpr::Size(r) => size_of(r, frame, gate, turn),
-        IntExpr::First(r, at) => first_of(r, at, frame, gate, turn),
-        IntExpr::Last(r, at) => last_of(r, at, frame, gate, turn),
-        IntExpr::Low(r, at) => low_of(r, at, frame, gate, turn),
-        IntExpr::High(r, at) => high_of(r, at, frame, gate, turn),
-        IntExpr::Count(d) => count_of(d, frame, gate, turn),
+        IntExpr::OfRange(method, r, at) => of_range(*method, r, at, frame, gate, turn),
+        IntExpr::OfDomain(method, d) => of_domain(*method, d, frame, gate, turn),
         IntExpr::Element(slot, t, at) => element(*slot, t, at, frame, gate, turn),
         IntExpr::Reduced(fold, e, at) => reduced_int(*fold, e, at, frame, gate, turn),
     }
 }
 
-// The methods of a range. Each is a function of its own, so that a walk over numbers alone has no place for ranges in its frame.
+// Methods are functions of their own, so that a walk over numbers alone has no place for ranges and domains in its frame.
 
-// `size`
+// A method of a range.
 #[cycle(walk)]
 #[inline(never)]
-fn size_of<G: Team>(
-    r: &RangeExpr<'_>,
-    frame: &Frame<G::Kept>,
-    gate: &G,
-    turn: &mut Turn,
-) -> Result<i64, Alarm>
-    requires ready { G.is_ready gate.now }
-    ensures { Tells (MayRefuseReduction (G.may_refuse gate.now) frame.now (EachInRange r.now)) Int turn.new result (range_end frame.now r.now nowhere Size) }
-{
-    Ok(size(range_value(r, frame, gate, turn)?))
-}
-
-// `first`
-#[cycle(walk)]
-#[inline(never)]
-fn first_of<G: Team>(
+fn of_range<G: Team>(
+    method: RangeMethod,
     r: &RangeExpr<'_>,
     at: &Spot,
     frame: &Frame<G::Kept>,
@@ -157,76 +140,29 @@ fn first_of<G: Team>(
     turn: &mut Turn,
 ) -> Result<i64, Alarm>
     requires ready { G.is_ready gate.now }
-    ensures { Tells (MayRefuseReduction (G.may_refuse gate.now) frame.now (EachInRange r.now)) Int turn.new result (range_end frame.now r.now at.now First) }
+    ensures { Tells (MayRefuseReduction (G.may_refuse gate.now) frame.now (EachInRange r.now)) Int turn.new result
+        (range_method_in frame.now method r.now at.now) }
 {
     let range = range_value(r, frame, gate, turn)?;
-    first(range, *at, turn)
+    range_method(method, range, *at, turn)
 }
 
-// `last`
+// A method of a domain.
 #[cycle(walk)]
 #[inline(never)]
-fn last_of<G: Team>(
-    r: &RangeExpr<'_>,
-    at: &Spot,
-    frame: &Frame<G::Kept>,
-    gate: &G,
-    turn: &mut Turn,
-) -> Result<i64, Alarm>
-    requires ready { G.is_ready gate.now }
-    ensures { Tells (MayRefuseReduction (G.may_refuse gate.now) frame.now (EachInRange r.now)) Int turn.new result (range_end frame.now r.now at.now Last) }
-{
-    let range = range_value(r, frame, gate, turn)?;
-    last(range, *at, turn)
-}
-
-// `low`
-#[cycle(walk)]
-#[inline(never)]
-fn low_of<G: Team>(
-    r: &RangeExpr<'_>,
-    at: &Spot,
-    frame: &Frame<G::Kept>,
-    gate: &G,
-    turn: &mut Turn,
-) -> Result<i64, Alarm>
-    requires ready { G.is_ready gate.now }
-    ensures { Tells (MayRefuseReduction (G.may_refuse gate.now) frame.now (EachInRange r.now)) Int turn.new result (range_end frame.now r.now at.now Low) }
-{
-    let range = range_value(r, frame, gate, turn)?;
-    low(range, *at, turn)
-}
-
-// `high`
-#[cycle(walk)]
-#[inline(never)]
-fn high_of<G: Team>(
-    r: &RangeExpr<'_>,
-    at: &Spot,
-    frame: &Frame<G::Kept>,
-    gate: &G,
-    turn: &mut Turn,
-) -> Result<i64, Alarm>
-    requires ready { G.is_ready gate.now }
-    ensures { Tells (MayRefuseReduction (G.may_refuse gate.now) frame.now (EachInRange r.now)) Int turn.new result (range_end frame.now r.now at.now High) }
-{
-    let range = range_value(r, frame, gate, turn)?;
-    high(range, *at, turn)
-}
-
-// `size` of a domain
-#[cycle(walk)]
-#[inline(never)]
-fn count_of<G: Team>(
+fn of_domain<G: Team>(
+    method: DomainMethod,
     d: &DomainExpr<'_>,
     frame: &Frame<G::Kept>,
     gate: &G,
     turn: &mut Turn,
 ) -> Result<i64, Alarm>
     requires ready { G.is_ready gate.now }
-    ensures { Tells (MayRefuseReduction (G.may_refuse gate.now) frame.now (EachInDomain d.now)) Int turn.new result (domain_size frame.now d.now) }
+    ensures { Tells (MayRefuseReduction (G.may_refuse gate.now) frame.now (EachInDomain d.now)) Int turn.new result
+        (domain_method_in frame.now method d.now) }
 {
-    Ok(domain_value(d, frame, gate, turn)?.size() as i64)
+    let domain = domain_value(d, frame, gate, turn)?;
+    Ok(domain_method(method, domain))
 }
 
 /// The word of an element of an array, by the coordinates of its index.

@@ -1,17 +1,19 @@
-// Ranges as values: their bounds, their strides and their slices, with the faults that these tell.
+// Ranges as values: their bounds, their strides and their methods, with the faults that these tell.
 // A bound is a whole number without a limit until it is tested.
 
 ghost use Rattle.std.specs.Prelude.{◌≡◌, false, pos, [], ◌∷◌};
 ghost use Rattle.dpl_language.specs.Values.{Int};
 ghost use Rattle.dpl_language.specs.Ranges.{strided_by as strided_by_of, high_bound as high_bound_of, bad_count as bad_count_of};
-ghost use Rattle.dpl_language.specs.Ranges.{size_in, members_in, end_of, first_of, last_of, least_of, greatest_of, contains_index};
-ghost use Rattle.dpl_nodes.specs.Typed.{dots_view};
-ghost use Rattle.dpl_frame.specs.Faults.{Tells};
+ghost use Rattle.dpl_language.specs.Ranges.{method_of, size_in, members_in, end_of, first_of, last_of, least_of, greatest_of, contains_index};
+ghost use Rattle.dpl_lowered.specs.LoweredExpressions.{is_end};
+ghost use Rattle.dpl_lowered.specs.Shapes.{kept};
+ghost use Rattle.dpl_nodes.specs.Typed.{dots_view, range_word as method_word};
+ghost use Rattle.dpl_frame.specs.Faults.{Tells, as_range};
 ghost use Rattle.dpl_contents.specs.Range.{range_word};
 ghost use Rattle.dpl_values.specs.Bounds.{FitsOrPast, bounds_of};
 
 use dpl_frame::{Alarm, FaultCode, RangeWord, Turn};
-use dpl_nodes::{Dots, Spot};
+use dpl_nodes::{Dots, RangeMethod, Spot};
 use dpl_range::Range;
 
 // The high bound, where it is an int.
@@ -88,18 +90,15 @@ pub(crate) fn strided_by(
     }
 }
 
-/// How many members a range has.
-pub fn size(range: RangeWord) -> i64
+// How many members a range has.
+fn size(range: RangeWord) -> i64
     ensures { result ≡ pos (size_in (range_word range ∷ [])) }
 {
     range.range.size() as i64
 }
 
-/// The first member of a range.
-///
-/// # Errors
-/// `F4` at the method's name for an empty one.
-pub(crate) fn first(range: RangeWord, at: Spot, turn: &mut Turn) -> Result<i64, Alarm>
+// The first member of a range, or `F4` at the method's name for an empty one.
+fn first(range: RangeWord, at: Spot, turn: &mut Turn) -> Result<i64, Alarm>
     ensures { Tells ⊥ Int turn.new result (end_of at first_of (members_in (range_word range))) }
 {
     match range.range.first() {
@@ -108,11 +107,8 @@ pub(crate) fn first(range: RangeWord, at: Spot, turn: &mut Turn) -> Result<i64, 
     }
 }
 
-/// The last member of a range.
-///
-/// # Errors
-/// `F4` at the method's name for an empty one.
-pub(crate) fn last(range: RangeWord, at: Spot, turn: &mut Turn) -> Result<i64, Alarm>
+// The last member of a range, or `F4` at the method's name for an empty one.
+fn last(range: RangeWord, at: Spot, turn: &mut Turn) -> Result<i64, Alarm>
     ensures { Tells ⊥ Int turn.new result (end_of at last_of (members_in (range_word range))) }
 {
     match range.range.last() {
@@ -121,11 +117,8 @@ pub(crate) fn last(range: RangeWord, at: Spot, turn: &mut Turn) -> Result<i64, A
     }
 }
 
-/// The least member of a range.
-///
-/// # Errors
-/// `F4` at the method's name for an empty one.
-pub(crate) fn low(range: RangeWord, at: Spot, turn: &mut Turn) -> Result<i64, Alarm>
+// The least member of a range, or `F4` at the method's name for an empty one.
+fn low(range: RangeWord, at: Spot, turn: &mut Turn) -> Result<i64, Alarm>
     ensures { Tells ⊥ Int turn.new result (end_of at least_of (members_in (range_word range))) }
 {
     match range.range.low() {
@@ -134,16 +127,34 @@ pub(crate) fn low(range: RangeWord, at: Spot, turn: &mut Turn) -> Result<i64, Al
     }
 }
 
-/// The greatest member of a range.
-///
-/// # Errors
-/// `F4` at the method's name for an empty one.
-pub(crate) fn high(range: RangeWord, at: Spot, turn: &mut Turn) -> Result<i64, Alarm>
+// The greatest member of a range, or `F4` at the method's name for an empty one.
+fn high(range: RangeWord, at: Spot, turn: &mut Turn) -> Result<i64, Alarm>
     ensures { Tells ⊥ Int turn.new result (end_of at greatest_of (members_in (range_word range))) }
 {
     match range.range.high() {
         Some(end) => Ok(end),
         None => Err(Alarm::new(FaultCode::EmptyEnd, at, turn)),
+    }
+}
+
+/// What a method of a range gives.
+///
+/// # Errors
+/// `F4` at the method's name for an end of an empty one.
+pub(crate) fn range_method(
+    method: RangeMethod,
+    range: RangeWord,
+    at: Spot,
+    turn: &mut Turn,
+) -> Result<i64, Alarm>
+    ensures { Tells ⊥ Int turn.new result (method_of (method_word method) (kept (is_end (method_word method)) at) (as_range range)) }
+{
+    match method {
+        RangeMethod::Size => Ok(size(range)),
+        RangeMethod::First => first(range, at, turn),
+        RangeMethod::Last => last(range, at, turn),
+        RangeMethod::Low => low(range, at, turn),
+        RangeMethod::High => high(range, at, turn),
     }
 }
 

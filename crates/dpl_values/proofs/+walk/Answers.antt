@@ -1,19 +1,19 @@
 -- What stands behind a range or a domain is by its value, and a scalar has at an index the value that it has without one;
 -- a reduction is the fold of the items at all indices. All else the prover finds by itself.
-use Rattle.std.proofs.Common.{◌≡◌, ℕ, ⊎_elim, rules, pos, true, false, [], ◌∷◌, None, Some, Ok, Err, refl, sym, subst, ap, ◌∙◌, w64, to_z, of_z, FitsSigned}
+use Rattle.std.proofs.Common.{◌≡◌, ℕ, ⊎_elim, rules, true, false, None, Some, Ok, Err, refl, sym, subst, ap, ◌∙◌, w64, to_z, of_z, FitsSigned}
 use Rattle.std.proofs.lemmas.Int.{to_z-of_z}
 use Rattle.std.proofs.lemmas.Result.{err_from_is_err_and}
 use Rattle.std.specs.Option.{option_map}
-use Rattle.dpl_language.specs.Tree.{Plainly, Size, First, Last, Low, High, Expand}
+use Rattle.dpl_language.specs.Tree.{Plainly, Expand}
 use Rattle.dpl_language.specs.Values.{Index, Int, Domain, number, fault, PastLimit}
-use Rattle.dpl_language.specs.Ranges.{size_in, expanded}
+use Rattle.dpl_language.specs.Ranges.{expanded}
 use Rattle.dpl_language.specs.Outcome.{with_ok}
 use Rattle.dpl_language.specs.Expressions.{value_of, item_of, reduction, fold_over}
-use Rattle.dpl_lowered.specs.Shapes.{nowhere}
-use Rattle.dpl_lowered.specs.LoweredExpressions.{EachTurn}
+use Rattle.dpl_lowered.specs.Shapes.{nowhere, kept}
+use Rattle.dpl_lowered.specs.LoweredExpressions.{EachTurn, is_end}
 use Rattle.dpl_memory.specs.Memory.{array_at, in_memory}
 use Rattle.dpl_nodes.specs.declared.tree.IntExpr.{IntExpr}
-use Rattle.dpl_nodes.specs.Typed.{int_view, range_item, ranges_items, domain_view, promoted_int, int_fold_view}
+use Rattle.dpl_nodes.specs.Typed.{range_word as method_word, domain_word, int_view, range_item, ranges_items, domain_view, promoted_int, int_fold_view}
 use Rattle.dpl_nodes.proofs.Promotions.{int_view-at}
 use Rattle.dpl_frame.specs.Frames.{owned_by}
 use Rattle.dpl_frame.specs.Faults.{Tells, as_range}
@@ -37,69 +37,28 @@ expression::int_value-returns-in-Reduced g t c =
     let may = λ (each : (ℕ → Type 0) → Type 0). MayRefuseReduction (g.G.Gate.may_refuse c.args.gate.now) c.args.frame.now each in
     subst (λ (e : IntExpr). Tells (may (EachInInt e)) Int c.reduced_int.new.turn c.reduced_int.result (int_in c.args.frame.now e)) (sym c.in-Reduced.is) c.reduced_int.ensures
 
-pub expression::size_of-returns-in_err-range_value : goal.expression::size_of-returns-in_err-range_value
-expression::size_of-returns-in_err-range_value g t c =
+pub expression::of_range-returns-in_err-range : goal.expression::of_range-returns-in_err-range
+expression::of_range-returns-in_err-range g t c =
     let may = MayRefuseReduction (g.G.Gate.may_refuse c.args.gate.now) c.args.frame.now (EachInRange c.args.r.now) in
+    let word = method_word c.args.method in
     let p = err_from_is_err_and c.from_residual.result c.from_residual.ensures.1 in
     rw (p.1, p.2)
-    (method_ends c.args.frame.now.limits c.args.frame.now.memory may may (λ m. m) Int c.range_value.new.turn c.in_err-range_value.field-0.0 c.args.r.now (Plainly nowhere Size) c.in_err-range_value.ensures)
+    (method_ends c.args.frame.now.limits c.args.frame.now.memory may may (λ m. m) Int c.range_value.new.turn c.in_err-range.field-0.0 c.args.r.now (Plainly (kept (is_end word) c.args.at.now) word) c.in_err-range.ensures)
 
-pub expression::size_of-returns : goal.expression::size_of-returns
-expression::size_of-returns g t c =
-    let x = range_word c.in_ok-range_value.field-0 in
-    method_answer c.args.frame.now.limits c.args.frame.now.memory c.args.r.now (Plainly nowhere Size) x (Ok (Int (pos (size_in (x ∷ []))))) c.in_ok-range_value.ensures refl ∙ search rules
+pub expression::of_range-returns : goal.expression::of_range-returns
+expression::of_range-returns g t c =
+    let word = method_word c.args.method in
+    tells-as ⊥ Int c.range_method.new.turn _ c.range_method.result _ _ absurd
+    (method_answer c.args.frame.now.limits c.args.frame.now.memory c.args.r.now (Plainly (kept (is_end word) c.args.at.now) word) (range_word c.in_ok-range.range) _ c.in_ok-range.ensures refl)
+    c.range_method.ensures
 
-pub expression::first_of-returns-in_err-range : goal.expression::first_of-returns-in_err-range
-expression::first_of-returns-in_err-range g t c =
-    let may = MayRefuseReduction (g.G.Gate.may_refuse c.args.gate.now) c.args.frame.now (EachInRange c.args.r.now) in
-    let p = err_from_is_err_and c.from_residual.result c.from_residual.ensures.1 in
-    rw (p.1, p.2)
-    (method_ends c.args.frame.now.limits c.args.frame.now.memory may may (λ m. m) Int c.range_value.new.turn c.in_err-range.field-0.0 c.args.r.now (Plainly c.args.at.now First) c.in_err-range.ensures)
-
-pub expression::first_of-returns : goal.expression::first_of-returns
-expression::first_of-returns g t c =
-    tells-as ⊥ Int c.first.new.turn _ c.first.result _ _ absurd
-    (method_answer c.args.frame.now.limits c.args.frame.now.memory c.args.r.now (Plainly c.args.at.now First) (range_word c.in_ok-range.range) _ c.in_ok-range.ensures refl)
-    c.first.ensures
-
-pub expression::last_of-returns-in_err-range : goal.expression::last_of-returns-in_err-range
-expression::last_of-returns-in_err-range g t c =
-    let may = MayRefuseReduction (g.G.Gate.may_refuse c.args.gate.now) c.args.frame.now (EachInRange c.args.r.now) in
-    let p = err_from_is_err_and c.from_residual.result c.from_residual.ensures.1 in
-    rw (p.1, p.2)
-    (method_ends c.args.frame.now.limits c.args.frame.now.memory may may (λ m. m) Int c.range_value.new.turn c.in_err-range.field-0.0 c.args.r.now (Plainly c.args.at.now Last) c.in_err-range.ensures)
-
-pub expression::last_of-returns : goal.expression::last_of-returns
-expression::last_of-returns g t c =
-    tells-as ⊥ Int c.last.new.turn _ c.last.result _ _ absurd
-    (method_answer c.args.frame.now.limits c.args.frame.now.memory c.args.r.now (Plainly c.args.at.now Last) (range_word c.in_ok-range.range) _ c.in_ok-range.ensures refl)
-    c.last.ensures
-
-pub expression::low_of-returns-in_err-range : goal.expression::low_of-returns-in_err-range
-expression::low_of-returns-in_err-range g t c =
-    let may = MayRefuseReduction (g.G.Gate.may_refuse c.args.gate.now) c.args.frame.now (EachInRange c.args.r.now) in
-    let p = err_from_is_err_and c.from_residual.result c.from_residual.ensures.1 in
-    rw (p.1, p.2)
-    (method_ends c.args.frame.now.limits c.args.frame.now.memory may may (λ m. m) Int c.range_value.new.turn c.in_err-range.field-0.0 c.args.r.now (Plainly c.args.at.now Low) c.in_err-range.ensures)
-
-pub expression::low_of-returns : goal.expression::low_of-returns
-expression::low_of-returns g t c =
-    tells-as ⊥ Int c.low.new.turn _ c.low.result _ _ absurd
-    (method_answer c.args.frame.now.limits c.args.frame.now.memory c.args.r.now (Plainly c.args.at.now Low) (range_word c.in_ok-range.range) _ c.in_ok-range.ensures refl)
-    c.low.ensures
-
-pub expression::high_of-returns-in_err-range : goal.expression::high_of-returns-in_err-range
-expression::high_of-returns-in_err-range g t c =
-    let may = MayRefuseReduction (g.G.Gate.may_refuse c.args.gate.now) c.args.frame.now (EachInRange c.args.r.now) in
-    let p = err_from_is_err_and c.from_residual.result c.from_residual.ensures.1 in
-    rw (p.1, p.2)
-    (method_ends c.args.frame.now.limits c.args.frame.now.memory may may (λ m. m) Int c.range_value.new.turn c.in_err-range.field-0.0 c.args.r.now (Plainly c.args.at.now High) c.in_err-range.ensures)
-
-pub expression::high_of-returns : goal.expression::high_of-returns
-expression::high_of-returns g t c =
-    tells-as ⊥ Int c.high.new.turn _ c.high.result _ _ absurd
-    (method_answer c.args.frame.now.limits c.args.frame.now.memory c.args.r.now (Plainly c.args.at.now High) (range_word c.in_ok-range.range) _ c.in_ok-range.ensures refl)
-    c.high.ensures
+pub expression::of_domain-returns : goal.expression::of_domain-returns
+expression::of_domain-returns g t c =
+    let n = c.domain_method.result in
+    let fits : FitsSigned w64 n = search rules in
+    domain_answer c.args.frame.now.limits c.args.frame.now.memory c.args.d.now (Plainly nowhere (domain_word c.args.method)) c.in_ok-domain.domain (Ok (Int n))
+    c.in_ok-domain.ensures c.domain_method.ensures
+    ∙ ap (λ z. Ok (Int z)) (sym (to_z-of_z w64 n fits))
 
 pub expression::range_value-returns-in_err-range-in-Slice : goal.expression::range_value-returns-in_err-range-in-Slice
 expression::range_value-returns-in_err-range-in-Slice g t c =

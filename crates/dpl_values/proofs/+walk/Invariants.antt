@@ -7,9 +7,6 @@ use Rattle.dpl_values.proofs.+walk.Given as goal
 abbrev pub decreases-expression::coordinate_value : goal.decreases-expression::coordinate_value
 decreases-expression::coordinate_value g l = 5 * goal.size-expression::coordinate_value g l + 1
 
-abbrev pub decreases-expression::count_of : goal.decreases-expression::count_of
-decreases-expression::count_of g l = 5 * goal.size-expression::count_of g l + 1
-
 abbrev pub decreases-expression::cut : goal.decreases-expression::cut
 decreases-expression::cut g l = 5 * goal.size-expression::cut g l
 
@@ -19,32 +16,23 @@ decreases-expression::domain_value g l = 5 * goal.size-expression::domain_value 
 abbrev pub decreases-expression::element : goal.decreases-expression::element
 decreases-expression::element g l = 5 * goal.size-expression::element g l
 
-abbrev pub decreases-expression::first_of : goal.decreases-expression::first_of
-decreases-expression::first_of g l = 5 * goal.size-expression::first_of g l + 1
-
-abbrev pub decreases-expression::high_of : goal.decreases-expression::high_of
-decreases-expression::high_of g l = 5 * goal.size-expression::high_of g l + 1
-
 abbrev pub decreases-expression::int_value : goal.decreases-expression::int_value
 decreases-expression::int_value g l = 5 * goal.size-expression::int_value g l
-
-abbrev pub decreases-expression::last_of : goal.decreases-expression::last_of
-decreases-expression::last_of g l = 5 * goal.size-expression::last_of g l + 1
 
 abbrev pub decreases-expression::literal : goal.decreases-expression::literal
 decreases-expression::literal g l = 5 * goal.size-expression::literal g l
 
-abbrev pub decreases-expression::low_of : goal.decreases-expression::low_of
-decreases-expression::low_of g l = 5 * goal.size-expression::low_of g l + 1
+abbrev pub decreases-expression::of_domain : goal.decreases-expression::of_domain
+decreases-expression::of_domain g l = 5 * goal.size-expression::of_domain g l + 1
+
+abbrev pub decreases-expression::of_range : goal.decreases-expression::of_range
+decreases-expression::of_range g l = 5 * goal.size-expression::of_range g l + 1
 
 abbrev pub decreases-expression::operand : goal.decreases-expression::operand
 decreases-expression::operand g l = 5 * goal.size-expression::operand g l + 1
 
 abbrev pub decreases-expression::range_value : goal.decreases-expression::range_value
 decreases-expression::range_value g l = 5 * goal.size-expression::range_value g l
-
-abbrev pub decreases-expression::size_of : goal.decreases-expression::size_of
-decreases-expression::size_of g l = 5 * goal.size-expression::size_of g l + 1
 
 abbrev pub decreases-expression::stridden : goal.decreases-expression::stridden
 decreases-expression::stridden g l = 5 * goal.size-expression::stridden g l
