@@ -5,7 +5,7 @@ use Rattle.std.specs.Global.{Vec}
 use Rattle.dpl_syntax.specs.declared.place.Place.{Place}
 use Rattle.dpl_syntax.specs.declared.refusal.Breach.{Breach}
 use Rattle.dpl_syntax.proofs.Walks.{drop-at}
-use Rattle.dpl_language.specs.Tree.{ExprTree, ItemTree, VariablesTree, DeclareTree, WhileWord, OnWord, LoopWord, ForWord, ForallWord, CoforallWord, StmtTree, If, Headed, Loop, Body, WordBody, BlockBody, Stmts, NoStmts, Else}
+use Rattle.dpl_language.specs.Tree.{ExprTree, ItemTree, VariablesTree, DeclareTree, HeadWord, LoopWord, ForWord, ForallWord, CoforallWord, StmtTree, If, Headed, Loop, Body, WordBody, BlockBody, Stmts, NoStmts, Else}
 use Rattle.dpl_language.specs.Names.{Text}
 use Rattle.dpl_language.specs.Phrases.{intents_of}
 use Rattle.dpl_tree.specs.declared.statement.Stmt.{Stmt}
@@ -14,12 +14,12 @@ use Rattle.dpl_tree.specs.Declarations.{optional}
 use Rattle.dpl_tree.specs.Statements.{with_view, stmt_view, stmts_of}
 use Rattle.dpl_rules.specs.Types.{ValueType}
 use Rattle.dpl_rules.specs.Sights.{Scopes, enter}
-use Rattle.dpl_rules.specs.Assignments.{condition_breaches, on_breaches}
+use Rattle.dpl_rules.specs.Assignments.{condition_breaches}
 use Rattle.dpl_rules.specs.Loops.{typed_variable, over_type, variables_of, add_variables, each_once, header_breaches, with_breaches, behind}
-use Rattle.dpl_rules.specs.Deeds.{Deed, AForall, ACoforall, AnOn, held, expr_deeds, item_deeds}
-use Rattle.dpl_rules.specs.Doings.{with_deeds, stmt_deeds, body_deeds, stmts_deeds, else_deeds}
+use Rattle.dpl_rules.specs.Deeds.{Deed, AForall, ACoforall, held, expr_deeds, item_deeds}
+use Rattle.dpl_rules.specs.Doings.{head_held, with_deeds, stmt_deeds, body_deeds, stmts_deeds, else_deeds}
 use Rattle.dpl_rules.specs.Bodies.{ForallScope, names_of, forall_scope, forall_breaches, task_breaches}
-use Rattle.dpl_rules.specs.Breaches.{stmt_breaches, body_breaches, stmts_breaches, else_breaches, top, top_sight, declarations, body_declarations, else_declarations, all_declarations, count_breaches, least_from}
+use Rattle.dpl_rules.specs.Breaches.{head_breaches, stmt_breaches, body_breaches, stmts_breaches, else_breaches, top, top_sight, declarations, body_declarations, else_declarations, all_declarations, count_breaches, least_from}
 use Rattle.dpl_rules.specs.Sound.{behind_all}
 use Rattle.dpl_types.proofs.Breaches.{least_from_append}
 use Rattle.dpl_deeds.specs.declared.deed.Deed.{Deed as DeedNode}
@@ -65,15 +65,16 @@ else_where ss n around t b c e f w =
     subst (λ m. Walks ss (slots_else ss t m) (else_deeds (enter ss) t) (else_breaches (sight_in (enter ss) around) t) (else_declarations t) b c) f
     (subst (λ vs. Walks vs (slots_else vs t b.slots) (else_deeds (enter vs) t) (else_breaches (sight_in (enter vs) around) t) (else_declarations t) b c) e w)
 
-pub while_walks : (at : Place) (e : ExprTree Text) (body : Body Text) (around : Around) (a b c : Walk)
-    → Walks a.scopes a.slots (expr_deeds a.scopes e) (condition_breaches (sight_in a.scopes around) e) [] a b → WalksBody around body b c
-    → WalksStmt around (Headed WhileWord at e body) a c
-while_walks at e body around a b c tested w =
+-- a word with a head and a body
+pub headed_walks : (word : HeadWord) (at : Place) (e : ExprTree Text) (body : Body Text) (around : Around) (a b c : Walk)
+    → Walks a.scopes a.slots (head_held word at ++ expr_deeds a.scopes e) (head_breaches (sight_in a.scopes around) word e) [] a b → WalksBody around body b c
+    → WalksStmt around (Headed word at e body) a c
+headed_walks word at e body around a b c head w =
     let ss = a.scopes in
     let n = a.slots in
-    walks_then ss ss n (slots_body (enter ss) body n) (expr_deeds ss e) (body_deeds (enter ss) body)
-    (condition_breaches (sight_in ss around) e) (body_breaches (sight_in (enter ss) around) body) [] (body_declarations body) a b c
-    tested (body_where ss n around body b c tested.scopes tested.slots w)
+    walks_then ss ss n (slots_body (enter ss) body n) (head_held word at ++ expr_deeds ss e) (body_deeds (enter ss) body)
+    (head_breaches (sight_in ss around) word e) (body_breaches (sight_in (enter ss) around) body) [] (body_declarations body) a b c
+    head (body_where ss n around body b c head.scopes head.slots w)
 
 pub if_walks : (at : Place) (e : ExprTree Text) (first : Body Text) (second : Else Text) (around : Around) (a b c d : Walk)
     → Walks a.scopes a.slots (expr_deeds a.scopes e) (condition_breaches (sight_in a.scopes around) e) [] a b → WalksBody around first b c → WalksElse around second c d
@@ -88,16 +89,6 @@ if_walks at e first second around a b c d tested w x =
     (body_declarations first) (else_declarations second) a c d
     (walks_then ss ss n m (expr_deeds ss e) (body_deeds (enter ss) first) (condition_breaches (sight_in ss around) e) (body_breaches (sight_in (enter ss) around) first) [] (body_declarations first) a b c tested taken)
     (else_where ss m around second c d taken.scopes taken.slots x)
-
-pub on_walks : (at : Place) (e : ExprTree Text) (body : Body Text) (around : Around) (a b c : Walk)
-    → Walks a.scopes a.slots (held at AnOn ++ expr_deeds a.scopes e) (on_breaches (sight_in a.scopes around) e) [] a b → WalksBody around body b c
-    → WalksStmt around (Headed OnWord at e body) a c
-on_walks at e body around a b c sent w =
-    let ss = a.scopes in
-    let n = a.slots in
-    walks_then ss ss n (slots_body (enter ss) body n) (held at AnOn ++ expr_deeds ss e) (body_deeds (enter ss) body)
-    (on_breaches (sight_in ss around) e) (body_breaches (sight_in (enter ss) around) body) [] (body_declarations body) a b c
-    sent (body_where ss n around body b c sent.scopes sent.slots w)
 
 -- ---- scopes that are entered and left
 -- a statement, and several, in a scope of their own

@@ -7,7 +7,7 @@ ghost use Rattle.dpl_rules.specs.Breaches.{least_from};
 ghost use Rattle.dpl_rules.specs.Places.{first_of_variables as first_of_tree};
 ghost use Rattle.dpl_rules.specs.Deeds.{item_deeds};
 ghost use Rattle.dpl_rules.specs.Loops.{over_domains as over_domains_of, over_locales as over_locales_of, runs_over as runs_over_of, turn_rank as turn_rank_of};
-ghost use Rattle.dpl_rules.specs.Loops.{one_type as one_type_of, fits_variables, typed_variable, header_of as header_of_loop, over_type, over_breaches};
+ghost use Rattle.dpl_rules.specs.Loops.{one_type as one_type_of, fits_variables, typed_variable, header_of, over_type, over_breaches};
 ghost use Rattle.dpl_scopes.specs.Types.{type_view, of_type};
 ghost use Rattle.dpl_tree.specs.View.{item_view};
 ghost use Rattle.dpl_tree.specs.Statements.{variables_view};
@@ -166,7 +166,7 @@ fn header(
     found: Option<ValueType<'_>>,
     first: &mut Option<Breach>,
 )
-    ensures { first.new ≡ least_from first.old (header_of_loop (word_view word) (variables_view variables.now) (item_view written.now) (of_type found.entry)) }
+    ensures { first.new ≡ least_from first.old (header_of (word_view word) (variables_view variables.now) (item_view written.now) (of_type found.entry)) }
 {
     if let Some(t) = found {
         if runs_over(word, t) {

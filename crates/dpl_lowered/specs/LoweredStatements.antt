@@ -4,7 +4,7 @@
 use Rattle.std.specs.Prelude.{ℕ, pos, Bool, true, false, ◌||◌, if◌then◌else◌, Option, Some, None, List, [], ◌∷◌, map, option_map}
 use Rattle.dpl_syntax.specs.declared.place.Place.{Place}
 use Rattle.dpl_language.specs.Tree.{Placed, AfterComma, Op, Kind, IntKind, BoolKind, AssignTree, ExprTree, Number, TruthWord, DomainLiteral, Postfixed, ItemTree, One, NoPosts, Post, Dotted, Plainly, Low, Items, FirstItem, NoItems, NextItem, StartTree, StartExpr, StartTuple, MapTree, BlockMap, CyclicMap, BlockCyclicMap, MappedTree, ArrayTypeTree, TypeTree, ScalarType, SyncType, DomainType, ArrayType, DomainTypeTree, CreateWord, CreateBlock, CreateCyclic, CreateTree, InitTree, ItemInit, CreateInit, TypedTree, InitialTree, DeclareTree}
-use Rattle.dpl_language.specs.Tree.{ArgumentTree, TextArgument, ExprArgument, WriteTree, IntentTree, ReduceIntent, WithTree, VariablesTree, OneVariable, ManyVariables, TargetTree, Whole, Element, Square, CallTree, ReadCall, ResetCall, WriteCall, HeadWord, WhileWord, OnWord, LoopWord, ForWord, ForallWord, CoforallWord, StmtTree, Nothing, Declare, Assigned, Call, Write, Block, If, Headed, Loop, Body, WordBody, BlockBody, Stmts, NoStmts, Then, Else, NoElse, ElseDo, ProgramTree}
+use Rattle.dpl_language.specs.Tree.{ArgumentTree, TextArgument, ExprArgument, WriteTree, IntentTree, ReduceIntent, WithTree, VariablesTree, OneVariable, ManyVariables, TargetTree, Whole, Element, Square, CallTree, ReadCall, ResetCall, WriteCall, HeadWord, OnWord, LoopWord, ForWord, ForallWord, CoforallWord, StmtTree, Nothing, Declare, Assigned, Call, Write, Block, If, Headed, Loop, Body, WordBody, BlockBody, Stmts, NoStmts, Then, Else, NoElse, ElseDo, ProgramTree}
 use Rattle.dpl_language.specs.Arithmetic.{assign_divides}
 use Rattle.dpl_language.specs.Phrases.{bare_name, cell_read, item_read, item_over, intents_of}
 use Rattle.dpl_language.specs.Declarations.{type_of}
@@ -119,8 +119,8 @@ lowered_intents CoforallWord w = None
 
 -- a budget that is used up, and too many tasks, are told at a loop's first word
 abbrev pub tells_head : HeadWord → Bool
-tells_head WhileWord = true
 tells_head OnWord = false
+tells_head _ = true
 
 -- an assignment's operator, with its place where a fault may tell it
 abbrev pub lowered_sign : Bool → AssignTree → AssignTree

@@ -1,7 +1,7 @@
 -- An expression fits where each of its names has the leaf of its innermost declaration.
 -- So it fits evaluated once and at an index, and as the right side of an assignment.
 use Rattle.std.proofs.Common.{Option, Some, None}
-use Rattle.dpl_language.specs.Tree.{ExprTree, Named, Grouped, DomainLiteral, Prefixed, Reduced, Chain, Postfixed, ItemTree, One, RangeItem, Stride, NoStride, By, Links, NoLinks, Link, Posts, NoPosts, Post, PostTree, Brackets, Rounds, Dotted, MethodTree, Plainly, Dim, Contains, Expand, CellRead, Items, FirstItem, MoreItems, NoItems, NextItem, Exprs, FirstExpr, MoreExprs, NoExprs, NextExpr}
+use Rattle.dpl_language.specs.Tree.{ExprTree, Number, TruthWord, Named, LocalesWord, LocaleCount, HereWord, Grouped, DomainLiteral, Prefixed, Reduced, Chain, Postfixed, ItemTree, One, RangeItem, Stride, NoStride, By, Links, NoLinks, Link, Posts, NoPosts, Post, PostTree, Brackets, Rounds, Dotted, MethodTree, Plainly, Dim, Contains, Expand, CellRead, Items, FirstItem, MoreItems, NoItems, NextItem, Exprs, FirstExpr, MoreExprs, NoExprs, NextExpr}
 use Rattle.dpl_language.specs.Values.{Index}
 use Rattle.dpl_language.specs.Phrases.{Base, BaseName, BaseLocales, OtherBase, base_of, item_base}
 use Rattle.dpl_agreement.specs.Scopes.{items_in, fits_name, fits_element, fits_expr, fits_item, fits_stride, fits_links, fits_posts, fits_post, fits_method, fits_items, fits_more_items, fits_exprs, fits_more_exprs}
@@ -11,14 +11,18 @@ use Rattle.dpl_memory.specs.Resolved.{Bound, Seen, Resolves, Start, resolving}
 module _ {N : Type 0} (P : N → Type 0) where
   abbrev mutual
     pub NamesAre : ExprTree N → Type 0
+    NamesAre (Number at n) = Unit {0}
+    NamesAre (TruthWord at b) = Unit {0}
     NamesAre (Named x) = P x.name
+    NamesAre (LocalesWord at) = Unit {0}
+    NamesAre (LocaleCount at) = Unit {0}
+    NamesAre (HereWord at) = Unit {0}
     NamesAre (Grouped from item upto) = ItemNamesAre item
     NamesAre (DomainLiteral from items upto) = ItemsNamesAre items
     NamesAre (Prefixed at op e) = NamesAre e
     NamesAre (Reduced at op word e) = NamesAre e
     NamesAre (Chain e rest) = NamesAre e × LinksNamesAre rest
     NamesAre (Postfixed e posts) = NamesAre e × PostsNamesAre posts
-    NamesAre _ = Unit {0}
 
     pub ItemNamesAre : ItemTree N → Type 0
     ItemNamesAre (One e) = NamesAre e

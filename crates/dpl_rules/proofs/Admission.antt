@@ -1,7 +1,8 @@
 -- A forall is admitted exactly where its body breaks none of the rules C6 to C9.
 -- Both speak of what the body does, deed by deed.
-use Rattle.std.proofs.Common.{◌≡◌, ◌↔◌, Bool, true, false, not, ◌||◌, List, [], ◌∷◌, ◌++◌, refl}
+use Rattle.std.proofs.Common.{◌≡◌, ◌↔◌, Bool, true, false, not, ◌||◌, List, [], ◌∷◌, ◌++◌, refl, sym, ap, ◌∙◌, append_assoc}
 use Rattle.dpl_syntax.specs.declared.place.Place.{Place}
+use Rattle.dpl_syntax.specs.declared.refusal.Breach.{Breach}
 use Rattle.dpl_rules.specs.Types.{Origin, has}
 use Rattle.dpl_syntax.specs.declared.refusal.Code.{Code}
 use Rattle.dpl_syntax.specs.declared.refusal.Code.TheVariants.{WrittenElsewhere, ReadElsewhere, OuterChanged, NotInForall}
@@ -20,6 +21,17 @@ first_empty (x ∷ xs) ys h = absurd cc
 pub second_empty : {A : Type 0} (xs ys : List A) → xs ++ ys ≡ [] → ys ≡ []
 second_empty [] ys h = h
 second_empty (x ∷ xs) ys h = absurd cc
+
+-- what is told of deeds, of some and of others
+each-append : (g : Deed → List Breach) (ds es : List Deed) → each g (ds ++ es) ≡ each g ds ++ each g es
+each-append g [] es = refl
+each-append g (d ∷ ds) es = ap (λ bs. g d ++ bs) (each-append g ds es) ∙ sym (append_assoc (g d) (each g ds) (each g es))
+
+pub first-each : (g : Deed → List Breach) (ds es : List Deed) → each g (ds ++ es) ≡ [] → each g ds ≡ []
+first-each g ds es none = first_empty (each g ds) (each g es) (sym (each-append g ds es) ∙ none)
+
+pub second-each : (g : Deed → List Breach) (ds es : List Deed) → each g (ds ++ es) ≡ [] → each g es ≡ []
+second-each g ds es none = second_empty (each g ds) (each g es) (sym (each-append g ds es) ∙ none)
 
 both_empty : {A : Type 0} (xs ys : List A) → xs ≡ [] → ys ≡ [] → xs ++ ys ≡ []
 both_empty [] ys p q = q

@@ -2,7 +2,7 @@
 -- One walk carries what is in sight, and asks each statement for the breaches of its rules.
 use Rattle.std.specs.Prelude.{◌≡◌, ◌⊎◌, ℕ, ◌==◌, nat_lt, Bool, true, false, ◌&&◌, ◌||◌, if◌then◌else◌, List, [], ◌∷◌, ◌++◌, drop, length, Option, Some, None}
 use Rattle.dpl_syntax.specs.declared.place.Place.{Place}
-use Rattle.dpl_language.specs.Tree.{ExprTree, VariablesTree, TypeTree, SyncType, DeclareTree, WithTree, ItemTree, HeadWord, WhileWord, OnWord, LoopWord, ForWord, ForallWord, CoforallWord, StmtTree, Nothing, Declare, Assigned, Call, Write, Block, If, Headed, Loop, Body, WordBody, BlockBody, Stmts, NoStmts, Then, Else, NoElse, ElseDo, ProgramTree}
+use Rattle.dpl_language.specs.Tree.{ExprTree, VariablesTree, TypeTree, SyncType, DeclareTree, WithTree, ItemTree, HeadWord, OnWord, LoopWord, ForWord, ForallWord, CoforallWord, StmtTree, Nothing, Declare, Assigned, Call, Write, Block, If, Headed, Loop, Body, WordBody, BlockBody, Stmts, NoStmts, Then, Else, NoElse, ElseDo, ProgramTree}
 use Rattle.dpl_language.specs.Names.{Text}
 use Rattle.dpl_language.specs.Declarations.{type_of as written_type}
 use Rattle.dpl_language.specs.Writing.{arguments_of}
@@ -39,8 +39,8 @@ turn_breaches ss CoforallWord xs intents ds = task_breaches (length ss) (with_de
 
 -- ---- a condition, and the locale that a body runs on
 abbrev pub head_breaches : Sight → HeadWord → ExprTree Text → List Breach
-head_breaches sight WhileWord e = condition_breaches sight e
 head_breaches sight OnWord e = on_breaches sight e
+head_breaches sight _ e = condition_breaches sight e
 
 -- ---- statements
 abbrev mutual

@@ -1,8 +1,7 @@
 -- What is known around a statement: each name in sight has a type of some kind, and the forall around, if there is one, breaks
 -- no rule, so that its body holds no other forall and changes its reduce variables by `reduce=`.
-use Rattle.std.proofs.Common.{◌≡◌, true, List, [], ◌∷◌, ◌++◌, Option, Some, None, refl, sym, ap, ◌∙◌, append_assoc}
+use Rattle.std.proofs.Common.{◌≡◌, true, List, [], ◌∷◌, ◌++◌, Option, Some, None, refl}
 use Rattle.dpl_syntax.specs.declared.place.Place.{Place}
-use Rattle.dpl_syntax.specs.declared.refusal.Breach.{Breach}
 use Rattle.dpl_language.specs.Tree.{Op, ItemTree, VariablesTree, WithTree, LoopWord, StmtTree, Declare}
 use Rattle.dpl_language.specs.Names.{Text}
 use Rattle.dpl_language.specs.Phrases.{intents_of}
@@ -17,7 +16,7 @@ use Rattle.dpl_rules.specs.Loops.{header_breaches, with_breaches, reducing_in, i
 use Rattle.dpl_rules.specs.Deeds.{AForall, Deed, Holds, each}
 use Rattle.dpl_rules.specs.Bodies.{forall_scope, deed_breaches}
 use Rattle.dpl_rules.specs.Breaches.{stmt_breaches}
-use Rattle.dpl_rules.proofs.Admission.{first_empty, second_empty}
+use Rattle.dpl_rules.proofs.Admission.{first-each, second-each}
 use Rattle.dpl_memory.specs.Memory.{VariableKind}
 use Rattle.dpl_memory.specs.Resolved.{Bound}
 use Rattle.dpl_typed.specs.Leaves.{kind_in}
@@ -65,21 +64,13 @@ abbrev pub MayDoIn : Option Turning → List Deed → Type 0
 MayDoIn None ds = Unit {0}
 MayDoIn (Some f) ds = each (deed_breaches (forall_scope f.outer f.variables f.intents) f.written) ds ≡ []
 
-each-append : (g : Deed → List Breach) (ds es : List Deed) → each g (ds ++ es) ≡ each g ds ++ each g es
-each-append g [] es = refl
-each-append g (d ∷ ds) es = ap (λ cs. g d ++ cs) (each-append g ds es) ∙ sym (append_assoc (g d) (each g ds) (each g es))
-
 pub first-done : (f : Option Turning) (ds es : List Deed) → MayDoIn f (ds ++ es) → MayDoIn f ds
 first-done None ds es m = tt
-first-done (Some f) ds es m =
-    let g = deed_breaches (forall_scope f.outer f.variables f.intents) f.written in
-    first_empty (each g ds) (each g es) (sym (each-append g ds es) ∙ m)
+first-done (Some f) ds es m = first-each (deed_breaches (forall_scope f.outer f.variables f.intents) f.written) ds es m
 
 pub second-done : (f : Option Turning) (ds es : List Deed) → MayDoIn f (ds ++ es) → MayDoIn f es
 second-done None ds es m = tt
-second-done (Some f) ds es m =
-    let g = deed_breaches (forall_scope f.outer f.variables f.intents) f.written in
-    second_empty (each g ds) (each g es) (sym (each-append g ds es) ∙ m)
+second-done (Some f) ds es m = second-each (deed_breaches (forall_scope f.outer f.variables f.intents) f.written) ds es m
 
 -- no forall stands in a forall
 pub forall-refuted : (f : Turning) (at : Place) (ds : List Deed) → MayDoIn (Some f) (Holds at AForall ∷ ds) → ⊥

@@ -1,7 +1,6 @@
 -- What breaks no rule stands where it may. In a forall's turn C9 forbids prints and loops that make turns or tasks;
 -- outside it is asked that nothing needs what doesn't run yet, so that there are no tasks.
-use Rattle.std.proofs.Common.{◌≡◌, List, [], ◌∷◌, ◌++◌, Option, refl, sym, ap, ◌∙◌, append_assoc}
-use Rattle.dpl_syntax.specs.declared.refusal.Breach.{Breach}
+use Rattle.std.proofs.Common.{◌≡◌, List, [], ◌++◌, Option}
 use Rattle.dpl_language.specs.Tree.{ItemTree, VariablesTree, WithTree, OnWord, LoopWord, ForWord, ForallWord, CoforallWord, StmtTree, Write, Block, If, Headed, Loop, Body, WordBody, BlockBody, Stmts, NoStmts, Then, Else, NoElse, ElseDo}
 use Rattle.dpl_language.specs.Names.{Text}
 use Rattle.dpl_agreement.specs.Untasked.{UntaskedLoop, UntaskedStmt, UntaskedBody, UntaskedStmts, UntaskedElse}
@@ -13,27 +12,19 @@ use Rattle.dpl_rules.specs.Deeds.{Deed, expr_deeds, item_deeds, each}
 use Rattle.dpl_rules.specs.Doings.{with_deeds, stmt_deeds, body_deeds, stmts_deeds, else_deeds}
 use Rattle.dpl_rules.specs.Bodies.{ForallScope, forall_scope, written_arrays, deed_breaches}
 use Rattle.dpl_rules.specs.Breaches.{in_turn, turn_breaches, head_breaches, stmt_breaches, body_breaches, stmts_breaches, else_breaches}
-use Rattle.dpl_rules.proofs.Admission.{first_empty, second_empty}
+use Rattle.dpl_rules.proofs.Admission.{first_empty, second_empty, first-each, second-each}
 use Rattle.dpl_standing.specs.Standing.{Outside, InTurn, LoopMayStand, in_body, MayStand, BodyMayStand, AllMayStand, ElseMayStand}
 
 -- ---- in a turn: what it does breaks no rule of a forall's body
-each-append : (g : Deed → List Breach) (ds es : List Deed) → each g (ds ++ es) ≡ each g ds ++ each g es
-each-append g [] es = refl
-each-append g (d ∷ ds) es = ap (λ cs. g d ++ cs) (each-append g ds es) ∙ sym (append_assoc (g d) (each g ds) (each g es))
-
 module _ (loop : ForallScope) (written : List Origin) where
   abbrev MayBeDone : List Deed → Type 0
   MayBeDone ds = each (deed_breaches loop written) ds ≡ []
 
   first_done : (ds es : List Deed) → MayBeDone (ds ++ es) → MayBeDone ds
-  first_done ds es m =
-      let g = deed_breaches loop written in
-      first_empty (each g ds) (each g es) (sym (each-append g ds es) ∙ m)
+  first_done = first-each (deed_breaches loop written)
 
   second_done : (ds es : List Deed) → MayBeDone (ds ++ es) → MayBeDone es
-  second_done ds es m =
-      let g = deed_breaches loop written in
-      second_empty (each g ds) (each g es) (sym (each-append g ds es) ∙ m)
+  second_done = second-each (deed_breaches loop written)
 
   mutual
     pub turn-stands : (ss : Scopes) (t : StmtTree Text) → each (deed_breaches loop written) (stmt_deeds ss t) ≡ [] → MayStand InTurn t

@@ -2,7 +2,7 @@
 use Rattle.std.proofs.Common.{rules, ◌≡◌, ◌+◌, [], drop, length, map, sym, ap, ◌∙◌, subst}
 use Rattle.std.specs.Prelude.{OnOk, IfOk}
 use Rattle.dpl_syntax.proofs.Walks.{drop-end}
-use Rattle.dpl_language.specs.Tree.{NoStmts, ForWord, ForallWord}
+use Rattle.dpl_language.specs.Tree.{NoStmts, WhileWord, OnWord, ForWord, ForallWord}
 use Rattle.dpl_tree.specs.View.{expr_view, item_view}
 use Rattle.dpl_tree.specs.Declarations.{optional}
 use Rattle.dpl_tree.specs.Statements.{variables_view, with_view, stmt_view, body_view, else_view, stmts_of}
@@ -17,7 +17,7 @@ use Rattle.dpl_typed.specs.Lowered.{leaves_of}
 use Rattle.dpl_typed.proofs.Standing.{if_ok, on_any}
 use Rattle.dpl_checker.specs.Walks.{sight_in, WalksStmt, WalksInner, of_variables}
 use Rattle.dpl_checker.specs.Makes.{MakesStmt, MakesStmts, MakesInner}
-use Rattle.dpl_checker.proofs.Walking.{while_walks, if_walks, on_walks, stmts_left, body_left, for_walks, forall_walks, coforall_walks, turns_at, passes_begun, adds_begun, passes_then, passes_step, adds_step, still_ended}
+use Rattle.dpl_checker.proofs.Walking.{headed_walks, if_walks, stmts_left, body_left, for_walks, forall_walks, coforall_walks, turns_at, passes_begun, adds_begun, passes_then, passes_step, adds_step, still_ended}
 use Rattle.dpl_checker.proofs.Made.{untold, untold_before, body_made_at, else_made_at, while-made, if-made, for-made, forall-made, block-made, block_stmt-made, StillMakes, still_made_first, still_made_at, still_made_all}
 use Rattle.dpl_checker.proofs.statement.+statement.Goals as goal
 
@@ -49,7 +49,7 @@ pub repeat-returns-clause-walks : goal.repeat-returns-clause-walks
 repeat-returns-clause-walks t c =
     let turns = c.args.turns.now in
     let around = c.args.around in
-    while_walks turns.at (expr_view turns.condition.now) (body_view turns.body) around c.args.walk.now c.tested.new.walk c.body.new.walk (c.in-Ok-tested.ensures.walks around) c.in-Ok-body.ensures.walks
+    headed_walks WhileWord turns.at (expr_view turns.condition.now) (body_view turns.body) around c.args.walk.now c.tested.new.walk c.body.new.walk (c.in-Ok-tested.ensures.walks around) c.in-Ok-body.ensures.walks
 
 pub repeat-returns-clause-makes : goal.repeat-returns-clause-makes
 repeat-returns-clause-makes t c = λ none plain.
@@ -67,7 +67,7 @@ pub on_locale-returns : goal.on_locale-returns
 on_locale-returns t c =
     let there = c.args.there.now in
     let around = c.args.around in
-    on_walks there.at (expr_view there.locale.now) (body_view there.body) around c.args.walk.now c.sent.new.walk c.body.new.walk (c.in-Ok.ensures around) c.in-Ok-body.ensures.walks
+    headed_walks OnWord there.at (expr_view there.locale.now) (body_view there.body) around c.args.walk.now c.sent.new.walk c.body.new.walk (c.in-Ok.ensures around) c.in-Ok-body.ensures.walks
 
 -- ---- loops
 pub for_turns-returns-clause-walks : goal.for_turns-returns-clause-walks
