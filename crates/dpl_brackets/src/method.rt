@@ -36,17 +36,13 @@ fn of_range<'t>(
     ensures told { IfOk result (λ r. (strided : Bool) → Judges (word_verdict at word (RangeOf strided)) r first.old first.new) }
     ensures node { IfOk result (λ r. IsNear at → StandsFor r (λ m. dotted (range_view base.now) (Plainly (kept (is_end word) at) word))) }
 {
+    let Some(method) = RangeMethod::named(word) else {
+        return Ok(mistyped(at, first));
+    };
     let Ok(end) = spot(arena, at) else {
         return Err(AllocError);
     };
-    match word {
-        Word::Size => int(arena, IntExpr::OfRange(RangeMethod::Size, base, end)),
-        Word::First => int(arena, IntExpr::OfRange(RangeMethod::First, base, end)),
-        Word::Last => int(arena, IntExpr::OfRange(RangeMethod::Last, base, end)),
-        Word::Low => int(arena, IntExpr::OfRange(RangeMethod::Low, base, end)),
-        Word::High => int(arena, IntExpr::OfRange(RangeMethod::High, base, end)),
-        Word::LowBound | Word::DomainOf | Word::Id => Ok(mistyped(at, first)),
-    }
+    int(arena, IntExpr::OfRange(method, base, end))
 }
 
 // Of a domain: how many indices it has. `low` and `lowBound` of one stand only as where a map starts, and are C3 here.
@@ -60,16 +56,10 @@ fn of_domain<'t>(
     ensures told { IfOk result (λ r. (rank : ℕ) (strided : Bool) → Judges (word_verdict at word (DomainOf rank strided)) r first.old first.new) }
     ensures node { IfOk result (λ r. StandsFor r (λ m. dotted (domain_view base.now) (Plainly (kept (is_end word) at) word))) }
 {
-    match word {
-        Word::Size => int(arena, IntExpr::OfDomain(DomainMethod::Size, base)),
-        Word::First
-        | Word::Last
-        | Word::Low
-        | Word::High
-        | Word::LowBound
-        | Word::DomainOf
-        | Word::Id => Ok(mistyped(at, first)),
-    }
+    let Some(method) = DomainMethod::named(word) else {
+        return Ok(mistyped(at, first));
+    };
+    int(arena, IntExpr::OfDomain(method, base))
 }
 
 // Of a whole array: its domain.
@@ -93,13 +83,7 @@ fn of_array<'t>(
             over.strided,
             DomainExpr::OfArray(kind, slot),
         ),
-        Word::Size
-        | Word::First
-        | Word::Last
-        | Word::Low
-        | Word::High
-        | Word::LowBound
-        | Word::Id => Ok(mistyped(at, first)),
+        _ => Ok(mistyped(at, first)),
     }
 }
 
@@ -109,13 +93,7 @@ fn of_locale<'t>(arena: Arena<'t>, at: Place, word: Word, first: &mut Option<Bre
 {
     match word {
         Word::Id => int(arena, IntExpr::Number(0)),
-        Word::Size
-        | Word::First
-        | Word::Last
-        | Word::Low
-        | Word::High
-        | Word::LowBound
-        | Word::DomainOf => Ok(mistyped(at, first)),
+        _ => Ok(mistyped(at, first)),
     }
 }
 

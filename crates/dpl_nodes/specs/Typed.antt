@@ -1,6 +1,6 @@
 -- The plain tree that a typed tree stands for.
 -- It is a lowered tree over slots: two operands to an operator, no brackets, and the places of faults alone.
-use Rattle.std.specs.Prelude.{ℕ}
+use Rattle.std.specs.Prelude.{ℕ, Option, Some, None}
 use Rattle.dpl_syntax.specs.declared.place.Place.{Place}
 use Rattle.dpl_language.specs.Tree.{Kind, IntKind, BoolKind, Minus, Not, Infix, Add, Subtract, Multiply, Divide, Remainder, Less, LessEqual, Greater, GreaterEqual, Equal, NotEqual, And, Or, Dots, Closed, HalfOpen, Counted, Word, Size, First, Last, Low, High, DomainOf, Op, Sum, Product, AllOf, AnyOf, BitAnd, BitOr, BitXor, Least, Greatest, ExprTree, Number, TruthWord, Named, Grouped, DomainLiteral, Prefixed, Reduced, Postfixed, ItemTree, One, RangeItem, Stride, NoStride, By, NoPosts, Post, Brackets, Dotted, MethodTree, Plainly, Dim, Contains, Expand, Items, FirstItem, NoItems, NextItem, Exprs, FirstExpr, NoExprs, NextExpr}
 use Rattle.dpl_lowered.specs.Shapes.{nowhere, kept, two}
@@ -9,9 +9,9 @@ use Rattle.dpl_memory.specs.Memory.{DomainKind, TupleKind, ArrayKind, Variable, 
 use Rattle.dpl_nodes.specs.declared.tree.Dots.{Dots as DotsNode}
 use Rattle.dpl_nodes.specs.declared.tree.Dots.TheVariants as dots
 use Rattle.dpl_nodes.specs.declared.tree.RangeMethod.{RangeMethod}
-use Rattle.dpl_nodes.specs.declared.tree.RangeMethod.TheVariants as range_method
+use Rattle.dpl_nodes.specs.declared.tree.RangeMethod.TheVariants as of_range
 use Rattle.dpl_nodes.specs.declared.tree.DomainMethod.{DomainMethod}
-use Rattle.dpl_nodes.specs.declared.tree.DomainMethod.TheVariants as domain_method
+use Rattle.dpl_nodes.specs.declared.tree.DomainMethod.TheVariants as of_domain
 use Rattle.dpl_nodes.specs.declared.tree.Comparison.{Comparison}
 use Rattle.dpl_nodes.specs.declared.tree.Comparison.TheVariants as comparison
 use Rattle.dpl_nodes.specs.declared.tree.IntExpr.{IntExpr, Number as NumberNode, Local as IntLocal, Negative', Sum', Difference', Product', Quotient', Remainder', OfRange', OfDomain', Element', Reduced' as IntReduced'}
@@ -74,14 +74,27 @@ dots_view dots.HalfOpen = HalfOpen
 dots_view dots.Counted = Counted nowhere
 
 abbrev pub range_word : RangeMethod → Word
-range_word range_method.Size = Size
-range_word range_method.First = First
-range_word range_method.Last = Last
-range_word range_method.Low = Low
-range_word range_method.High = High
+range_word of_range.Size = Size
+range_word of_range.First = First
+range_word of_range.Last = Last
+range_word of_range.Low = Low
+range_word of_range.High = High
 
 abbrev pub domain_word : DomainMethod → Word
-domain_word domain_method.Size = Size
+domain_word of_domain.Size = Size
+
+-- the method that a word names
+abbrev pub range_method : Word → Option RangeMethod
+range_method Size = Some of_range.Size
+range_method First = Some of_range.First
+range_method Last = Some of_range.Last
+range_method Low = Some of_range.Low
+range_method High = Some of_range.High
+range_method _ = None
+
+abbrev pub domain_method : Word → Option DomainMethod
+domain_method Size = Some of_domain.Size
+domain_method _ = None
 
 abbrev pub comparison_view : Comparison → Infix
 comparison_view comparison.Equal = Equal

@@ -1,9 +1,12 @@
 // Typed expressions. An expression has the type of its enum, a variable is its slot, and a chain is a nest of two operands each.
 // They lie in the arena of the tree; specs/Typed.antt gives the plain tree that each stands for.
 
+ghost use Rattle.std.specs.Prelude.{◌≡◌};
+ghost use Rattle.dpl_nodes.specs.Typed.{range_method, domain_method};
+
 use crate::fold::{IntFold, TruthFold};
 use crate::spot::Spot;
-use dpl_tree::ScalarKind;
+use dpl_tree::{ScalarKind, Word};
 
 /// How a range's second number is meant: `..`, `..<` or `..#`.
 #[derive(Clone, Copy, PartialEq, Eq, Debug)]
@@ -23,10 +26,44 @@ pub enum RangeMethod {
     High,
 }
 
+impl RangeMethod {
+    /// The method of a range that a word names; none where the word is no method of a range.
+    pub fn named(word: Word) -> Option<RangeMethod>
+        ensures { result ≡ range_method word }
+    {
+        match word {
+            Word::Size => Some(RangeMethod::Size),
+            Word::First => Some(RangeMethod::First),
+            Word::Last => Some(RangeMethod::Last),
+            Word::Low => Some(RangeMethod::Low),
+            Word::High => Some(RangeMethod::High),
+            Word::LowBound | Word::DomainOf | Word::Id => None,
+        }
+    }
+}
+
 /// A method of a domain that gives an int: how many indices it has.
 #[derive(Clone, Copy, PartialEq, Eq, Debug)]
 pub enum DomainMethod {
     Size,
+}
+
+impl DomainMethod {
+    /// The method of a domain that a word names; none where the word is no method of a domain, or one that gives no int.
+    pub fn named(word: Word) -> Option<DomainMethod>
+        ensures { result ≡ domain_method word }
+    {
+        match word {
+            Word::Size => Some(DomainMethod::Size),
+            Word::First
+            | Word::Last
+            | Word::Low
+            | Word::High
+            | Word::LowBound
+            | Word::DomainOf
+            | Word::Id => None,
+        }
+    }
 }
 
 /// An expression that is an int.
