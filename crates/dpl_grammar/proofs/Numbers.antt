@@ -21,8 +21,7 @@ bare (Number n) = Number (pos 0)
 bare (Text text) = Text []
 bare k = k
 
--- the least number of a kind's sort, and of a number's
-
+-- the least number of a kind's sort, and that of the sort to which a number belongs
 abbrev sort : Kind → ℕ
 sort (Sign s) = 10
 sort (Keyword w) = 100
