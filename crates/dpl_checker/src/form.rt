@@ -26,7 +26,7 @@ use dpl_nodes::{BoolExpr, Intent, Names, Step};
 use dpl_prints::call::call;
 use dpl_prints::print::print;
 use dpl_syntax::Place;
-use dpl_tree::{Assignment, CellCall, Declare, Expr, Forall, Item, Variables, With, Write};
+use dpl_tree::{Assignment, CellCall, Declare, Expr, Item, Parallel, Variables, With, Write};
 use std::alloc::AllocError;
 
 /// A declaration, whose name is in sight behind it.
@@ -191,7 +191,7 @@ pub(crate) fn open_shared<'t>(
 /// The head of a forall with its intents: its reduce variables. What it does is that there is one, then what it runs over does, then its intents.
 pub(crate) fn open_forall<'t>(
     walk: &mut Walk<'t>,
-    turns: &Forall<'t>,
+    turns: &Parallel<'t>,
 ) -> Result<(Opened<'t>, &'t [Intent]), AllocError>
     ensures walks { OnOk result (WalksTurns turns.now.at (variables_view turns.now.variables) (item_view turns.now.over) (optional with_view turns.now.with)
         walk.old walk.new) }

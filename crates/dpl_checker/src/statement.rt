@@ -2,9 +2,9 @@
 // What the body of a forall or a coforall does is then asked of the deeds that it has put there.
 
 ghost use Rattle.std.specs.Prelude.{◌≡◌, OnOk, IfOk};
-ghost use Rattle.dpl_language.specs.Tree.{Then, NoStmts};
+ghost use Rattle.dpl_language.specs.Tree.{Then, NoStmts, WhileWord, OnWord, ForallWord, CoforallWord};
 ghost use Rattle.dpl_tree.specs.Statements.{stmt_view, body_view, else_view, stmts_of};
-ghost use Rattle.dpl_checker.specs.Trees.{if_tree, while_tree, for_tree, forall_tree, coforall_tree, on_tree};
+ghost use Rattle.dpl_checker.specs.Trees.{if_tree, headed_tree, for_tree, parallel_tree};
 ghost use Rattle.dpl_checker.specs.Walks.{WalksStmt, WalksStmts, WalksInner, WalksBody, WalksElse};
 ghost use Rattle.dpl_checker.specs.Makes.{MakesStmt, MakesStmts, MakesInner, MakesBody, MakesElse};
 
@@ -20,9 +20,9 @@ use dpl_bodies::task::task_breaches;
 use dpl_deeds::intents::with_deeds;
 use dpl_deeds::{Holding, behind, held};
 use dpl_heads::head::LoopWord;
-use dpl_heads::steps::{for_step, forall_step, if_step, while_step};
-use dpl_nodes::{Else as Otherwise, Step};
-use dpl_tree::{Body, Coforall, Else, For, Forall, If, On, Stmt, While};
+use dpl_heads::steps::{for_step, forall_step, headed_step, if_step};
+use dpl_nodes::{Else as Otherwise, Step, StepWord};
+use dpl_tree::{Body, Else, For, HeadWord, Headed, If, Parallel, ParallelWord, Stmt};
 use dpl_typed::node::spot;
 use std::alloc::AllocError;
 
@@ -49,11 +49,15 @@ pub(crate) fn stmt<'t>(walk: &mut Walk<'t>, around: Around<'t>, stmt: &Stmt<'t>)
             Ok(Step::Block(steps))
         }
         Stmt::If(choice) => choose(walk, around, choice),
-        Stmt::While(turns) => repeat(walk, around, turns),
+        Stmt::Headed(node) => match node.word {
+            HeadWord::While => repeat(walk, around, node),
+            HeadWord::On => on_locale(walk, around, node),
+        },
         Stmt::For(turns) => for_turns(walk, around, turns),
-        Stmt::Forall(turns) => forall_turns(walk, around, turns),
-        Stmt::Coforall(tasks) => coforall_tasks(walk, around, tasks),
-        Stmt::On(there) => on_locale(walk, around, there),
+        Stmt::Parallel(node) => match node.word {
+            ParallelWord::Forall => forall_turns(walk, around, node),
+            ParallelWord::Coforall => coforall_tasks(walk, around, node),
+        },
     }
 }
 
@@ -167,20 +171,20 @@ fn choose<'t>(walk: &mut Walk<'t>, around: Around<'t>, choice: &If<'t>) -> Stepp
 
 // `while`.
 #[cycle(statement)]
-fn repeat<'t>(walk: &mut Walk<'t>, around: Around<'t>, turns: &While<'t>) -> Stepped<'t>
-    ensures walks { OnOk result (WalksStmt around.entry (while_tree turns.now) walk.old walk.new) }
-    ensures makes { IfOk result (MakesStmt walk.old.scopes (while_tree turns.now) walk.new.first) }
+fn repeat<'t>(walk: &mut Walk<'t>, around: Around<'t>, turns: &Headed<'t>) -> Stepped<'t>
+    ensures walks { OnOk result (WalksStmt around.entry (headed_tree WhileWord turns.now) walk.old walk.new) }
+    ensures makes { IfOk result (MakesStmt walk.old.scopes (headed_tree WhileWord turns.now) walk.new.first) }
 {
     let Ok(at) = spot(walk.arena, turns.at) else {
         return Err(AllocError);
     };
-    let Ok(condition) = tested(walk, turns.condition) else {
+    let Ok(condition) = tested(walk, turns.value) else {
         return Err(AllocError);
     };
     let Ok(body) = body(walk, around, &turns.body) else {
         return Err(AllocError);
     };
-    Ok(while_step(at, condition, body))
+    Ok(headed_step(StepWord::While, at, condition, body))
 }
 
 // `for`.
@@ -204,9 +208,9 @@ fn for_turns<'t>(walk: &mut Walk<'t>, around: Around<'t>, turns: &For<'t>) -> St
 
 // `forall`: the rules on its body, and what its turns change, go by what that does.
 #[cycle(statement)]
-fn forall_turns<'t>(walk: &mut Walk<'t>, around: Around<'t>, turns: &Forall<'t>) -> Stepped<'t>
-    ensures walks { OnOk result (WalksStmt around.entry (forall_tree turns.now) walk.old walk.new) }
-    ensures makes { IfOk result (MakesStmt walk.old.scopes (forall_tree turns.now) walk.new.first) }
+fn forall_turns<'t>(walk: &mut Walk<'t>, around: Around<'t>, turns: &Parallel<'t>) -> Stepped<'t>
+    ensures walks { OnOk result (WalksStmt around.entry (parallel_tree ForallWord turns.now) walk.old walk.new) }
+    ensures makes { IfOk result (MakesStmt walk.old.scopes (parallel_tree ForallWord turns.now) walk.new.first) }
 {
     let seen = ForallScope {
         depth: walk.scopes.depth(),
@@ -247,8 +251,8 @@ fn forall_turns<'t>(walk: &mut Walk<'t>, around: Around<'t>, turns: &Forall<'t>)
 
 // `coforall`: the rules on its body speak of what its intents and that do. It isn't run.
 #[cycle(statement)]
-fn coforall_tasks<'t>(walk: &mut Walk<'t>, around: Around<'t>, tasks: &Coforall<'t>) -> Stepped<'t>
-    ensures { OnOk result (WalksStmt around.entry (coforall_tree tasks.now) walk.old walk.new) }
+fn coforall_tasks<'t>(walk: &mut Walk<'t>, around: Around<'t>, tasks: &Parallel<'t>) -> Stepped<'t>
+    ensures { OnOk result (WalksStmt around.entry (parallel_tree CoforallWord tasks.now) walk.old walk.new) }
 {
     let depth = walk.scopes.depth();
     let Ok(()) = held(tasks.at, Holding::Coforall, &mut walk.deeds) else {
@@ -281,10 +285,10 @@ fn coforall_tasks<'t>(walk: &mut Walk<'t>, around: Around<'t>, tasks: &Coforall<
 
 // `on`, which isn't run.
 #[cycle(statement)]
-fn on_locale<'t>(walk: &mut Walk<'t>, around: Around<'t>, there: &On<'t>) -> Stepped<'t>
-    ensures { OnOk result (WalksStmt around.entry (on_tree there.now) walk.old walk.new) }
+fn on_locale<'t>(walk: &mut Walk<'t>, around: Around<'t>, there: &Headed<'t>) -> Stepped<'t>
+    ensures { OnOk result (WalksStmt around.entry (headed_tree OnWord there.now) walk.old walk.new) }
 {
-    let Ok(()) = sent(walk, there.at, there.locale) else {
+    let Ok(()) = sent(walk, there.at, there.value) else {
         return Err(AllocError);
     };
     let Ok(_) = body(walk, around, &there.body) else {

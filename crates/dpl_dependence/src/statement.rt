@@ -80,7 +80,7 @@ fn may_stand(step: &Step<'_>, rules: &TurnRules<'_>) -> bool
             may_truth(condition, rules)
                 && (all_may_stand(body, rules) && else_may_stand(otherwise, rules))
         }
-        Step::While {
+        Step::Headed {
             condition,
             body,
             ..

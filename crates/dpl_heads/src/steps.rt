@@ -1,16 +1,16 @@
-// The steps of statements with bodies, of their parts: `if`, `while`, and loops over a range with one variable or over a domain.
+// The steps of statements with bodies, of their parts: `if`, a word with a condition, and loops over a range with one variable or over a domain.
 // Where the parts don't fit, `Step::Nothing` stands for the step.
 
 ghost use Rattle.std.specs.Prelude.{◌≡◌, map, None};
-ghost use Rattle.dpl_language.specs.Tree.{ExprTree, WhileWord, ForWord, ForallWord, If as IfTree, Headed, Loop};
+ghost use Rattle.dpl_language.specs.Tree.{ExprTree, ForWord, ForallWord, If as IfTree, Headed, Loop};
 ghost use Rattle.dpl_lowered.specs.Shapes.{nowhere};
 ghost use Rattle.dpl_lowered.specs.LoweredStatements.{with_intents};
 ghost use Rattle.dpl_memory.specs.Memory.{Variable};
-ghost use Rattle.dpl_nodes.specs.Steps.{listed, intent_view, names_view, steps_of, step_view, else_view};
+ghost use Rattle.dpl_nodes.specs.Steps.{step_word, listed, intent_view, names_view, steps_of, step_view, else_view};
 ghost use Rattle.dpl_heads.specs.Made.{IsTruth, over_item, FitsNames};
 
 use crate::head::Iterable;
-use dpl_nodes::{BoolExpr, Changed, Else, Names, Spot, Step};
+use dpl_nodes::{BoolExpr, Changed, Else, Names, Spot, Step, StepWord};
 
 /// An `if`.
 pub fn if_step<'t>(
@@ -31,17 +31,19 @@ pub fn if_step<'t>(
     }
 }
 
-/// A `while`.
-pub fn while_step<'t>(
+/// A word, a condition and a body.
+pub fn headed_step<'t>(
+    word: StepWord,
     at: &'t Spot,
     condition: Option<&'t BoolExpr<'t>>,
     body: &'t [Step<'t>],
 ) -> Step<'t>
-    ensures { (e : ExprTree Variable) → IsTruth e condition.entry → step_view result ≡ Headed WhileWord at.now e (listed (steps_of body.now)) }
+    ensures { (e : ExprTree Variable) → IsTruth e condition.entry → step_view result ≡ Headed (step_word word) at.now e (listed (steps_of body.now)) }
 {
     match condition {
         None => Step::Nothing,
-        Some(condition) => Step::While {
+        Some(condition) => Step::Headed {
+            word,
             at,
             condition,
             body,

@@ -1,5 +1,6 @@
 pub mod Underived
 pub mod Items
+pub mod Methods
 pub mod Evaluated
 pub mod Rows
 pub mod Unread

@@ -2,7 +2,7 @@
 -- It is a lowered one over slots: each body is a list, and the places are those of faults alone.
 use Rattle.std.specs.Prelude.{ℕ, Bool, false, Option, Some, None, List, [], ◌∷◌, map, option_map}
 use Rattle.dpl_syntax.specs.declared.place.Place.{Place}
-use Rattle.dpl_language.specs.Tree.{Placed, AfterComma, Listed, Op, Assign, Set, SetAdd, SetSubtract, SetMultiply, SetDivide, SetRemainder, SetReduce, Kind, IntKind, BoolKind, ExprTree, Grouped, Items, ItemTree, One, Word, Low, LowBound, Plainly, StartTree, StartExpr, StartTuple, MapTree, MappedTree, CreateBlock, CreateCyclic, TypeTree, ArrayType, InitialTree, ArgumentTree, TextArgument, ExprArgument, VariablesTree, OneVariable, ManyVariables, Whole, Element, Square, WhileWord, ForWord, ForallWord, StmtTree, Nothing, Declare, Assigned, Write, Block, If, Headed, Loop, Body, BlockBody, Stmts, NoStmts, Then, Else, NoElse, ElseDo}
+use Rattle.dpl_language.specs.Tree.{Placed, AfterComma, Listed, Op, Assign, Set, SetAdd, SetSubtract, SetMultiply, SetDivide, SetRemainder, SetReduce, Kind, IntKind, BoolKind, ExprTree, Grouped, Items, ItemTree, One, Word, Low, LowBound, Plainly, StartTree, StartExpr, StartTuple, MapTree, MappedTree, CreateBlock, CreateCyclic, TypeTree, ArrayType, InitialTree, ArgumentTree, TextArgument, ExprArgument, VariablesTree, OneVariable, ManyVariables, Whole, Element, Square, HeadWord, WhileWord, ForWord, ForallWord, StmtTree, Nothing, Declare, Assigned, Write, Block, If, Headed, Loop, Body, BlockBody, Stmts, NoStmts, Then, Else, NoElse, ElseDo}
 use Rattle.dpl_language.specs.Arithmetic.{assign_divides}
 use Rattle.dpl_lowered.specs.Shapes.{nowhere, kept}
 use Rattle.dpl_lowered.specs.LoweredExpressions.{EachTurn}
@@ -30,7 +30,9 @@ use Rattle.dpl_nodes.specs.declared.step.Rank.{Rank}
 use Rattle.dpl_nodes.specs.declared.step.Rank.TheVariants as rank
 use Rattle.dpl_nodes.specs.declared.step.Names.{Names}
 use Rattle.dpl_nodes.specs.declared.step.Names.TheVariants.{Int as IntName, Tuple as TupleName, Each}
-use Rattle.dpl_nodes.specs.declared.step.Step.{Step, Nothing as NothingStep, Int as IntStep, DeclareRange, SetRange, Truth as TruthStep, DeclareDomain, SetDomain, DeclareArray, SetElement, SetArray, SetTruthArray, Write as WriteStep, Block', If', While', For', Forall', ForEach', ForallEach', Row_of-Step, end_of-Step, more_of-Step}
+use Rattle.dpl_nodes.specs.declared.step.StepWord.{StepWord}
+use Rattle.dpl_nodes.specs.declared.step.StepWord.TheVariants as word
+use Rattle.dpl_nodes.specs.declared.step.Step.{Step, Nothing as NothingStep, Int as IntStep, DeclareRange, SetRange, Truth as TruthStep, DeclareDomain, SetDomain, DeclareArray, SetElement, SetArray, SetTruthArray, Write as WriteStep, Block', If', Headed', For', Forall', ForEach', ForallEach', Row_of-Step, end_of-Step, more_of-Step}
 use Rattle.dpl_nodes.specs.declared.step.IntDeed.{IntDeed}
 use Rattle.dpl_nodes.specs.declared.step.IntDeed.TheVariants as deeds
 use Rattle.dpl_nodes.specs.declared.step.Beginning.{Beginning}
@@ -262,6 +264,10 @@ names_view (IntName slot) = variable_in slot
 names_view (TupleName slot) = OneVariable (unplaced_leaf (variable TupleKind slot))
 names_view (Each first others) = ManyVariables nowhere (record { first = unplaced_leaf (int_leaf first); others = map next_name others.now }) nowhere
 
+-- the word before a condition and a body
+abbrev pub step_word : StepWord → HeadWord
+step_word word.While = WhileWord
+
 -- STATEMENTS
 abbrev pub listed : Stmts Variable → Body Variable
 listed ts = BlockBody nowhere ts nowhere
@@ -283,7 +289,7 @@ abbrev mutual
   step_view (Block' p shape row) = Block nowhere (steps_view row) nowhere
   step_view (If' condition p shape row otherwise) =
       If nowhere (truth_view condition.now) (listed (steps_view row)) (else_view otherwise)
-  step_view (While' at condition p shape row) = Headed WhileWord at.now (truth_view condition.now) (listed (steps_view row))
+  step_view (Headed' word at condition p shape row) = Headed (step_word word) at.now (truth_view condition.now) (listed (steps_view row))
   step_view (For' at slot over p shape row) =
       Loop ForWord at.now (variable_in slot) nowhere (range_item over.now) None (listed (steps_view row))
   step_view (Forall' at slot over changed p shape row) =

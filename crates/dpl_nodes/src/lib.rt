@@ -16,7 +16,7 @@ pub use placing::{MapExpr, Placing, StartExpr};
 pub use spot::Spot;
 pub use step::{
     Argument, ArrayDeclaration, ArrayName, Beginning, Changed, DeclaredOver, DomainName, Else,
-    Initial, IntDeed, Intent, Names, Rank, Step, TruthDeed, TruthTarget,
+    Initial, IntDeed, Intent, Names, Rank, Step, StepWord, TruthDeed, TruthTarget,
 };
 pub use stop::NoNode;
 pub use tree::{

@@ -152,6 +152,13 @@ pub enum Beginning<'t> {
     Empty(Rank),
 }
 
+/// What a condition and a body do, by the word before them.
+#[derive(Clone, Copy, PartialEq, Eq, Debug)]
+pub enum StepWord {
+    /// A loop: the body while the condition holds. It is told that its turns are more than the budget.
+    While,
+}
+
 /// A statement.
 #[cycle(step)]
 #[derive(Clone, Copy)]
@@ -188,8 +195,9 @@ pub enum Step<'t> {
         body: &'t [Step<'t>],
         otherwise: Else<'t>,
     },
-    /// A loop, with the place where it is told that its turns are more than the budget.
-    While {
+    /// A word, a condition and a body, with the place where the word's fault is told.
+    Headed {
+        word: StepWord,
         at: &'t Spot,
         condition: &'t BoolExpr<'t>,
         body: &'t [Step<'t>],

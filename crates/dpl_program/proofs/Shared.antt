@@ -55,6 +55,7 @@ step-sync κ =
     (search fields depth 60 fits 20000)
     (λ h s. search sendable)
     (search fields depth 60 fits 20000)
+    (search fields depth 60 fits 20000)
     (search fields depth 60 fits 20000))
 
 pub body-sync : (κ λ' : NamedLft) → IsSync (body.the_row κ λ')

@@ -38,7 +38,7 @@ fn written_by(step: &Step<'_>) -> Option<usize>
             Some(slot) => Some(slot),
             None => written_else(otherwise),
         },
-        Step::While { body, .. } => written(body),
+        Step::Headed { body, .. } => written(body),
         Step::For { body, .. } => written(body),
         Step::ForEach { body, .. } => written(body),
         Step::Nothing

@@ -2,19 +2,20 @@
 -- Each lemma has the node's view on its left side.
 use Rattle.std.proofs.Common.{◌≡◌, ℕ, Bor, List, None, refl, ap, ◌∙◌}
 use Rattle.dpl_syntax.specs.declared.place.Place.{Place}
-use Rattle.dpl_language.specs.Tree.{One, Block, If, Headed, Loop, Then, WhileWord, ForWord}
+use Rattle.dpl_language.specs.Tree.{One, Block, If, Headed, Loop, Then, ForWord}
 use Rattle.dpl_lowered.specs.Shapes.{nowhere}
 use Rattle.dpl_nodes.specs.declared.tree.BoolExpr.{BoolExpr}
 use Rattle.dpl_nodes.specs.declared.tree.RangeExpr.{RangeExpr}
 use Rattle.dpl_nodes.specs.declared.tree.DomainExpr.{DomainExpr}
 use Rattle.dpl_nodes.specs.declared.step.Changed.{Changed}
 use Rattle.dpl_nodes.specs.declared.step.Names.{Names}
-use Rattle.dpl_nodes.specs.declared.step.Step.{Step, Block as BlockStep, If as IfStep, While as WhileStep, For as ForStep, Forall as ForallStep, ForEach as ForEachStep, ForallEach as ForallEachStep, Row_of-Step, end_of-Step, more_of-Step, items-the_row-Step, items_hidden-the_row-Step-0}
+use Rattle.dpl_nodes.specs.declared.step.StepWord.{StepWord}
+use Rattle.dpl_nodes.specs.declared.step.Step.{Step, Block as BlockStep, If as IfStep, Headed as HeadedStep, For as ForStep, Forall as ForallStep, ForEach as ForEachStep, ForallEach as ForallEachStep, Row_of-Step, end_of-Step, more_of-Step, items-the_row-Step, items_hidden-the_row-Step-0}
 use Rattle.dpl_nodes.specs.declared.step.Else.TheBlock.{hidden-the_row-Step-0}
 use Rattle.dpl_standing.specs.Standing.{Standing, InTurn}
 use Rattle.dpl_nodes.specs.declared.step.Else.{Else as ElseNode}
 use Rattle.dpl_nodes.specs.Typed.{truth_view, range_item, domain_view}
-use Rattle.dpl_nodes.specs.Steps.{listed, variable_in, names_view}
+use Rattle.dpl_nodes.specs.Steps.{step_word, listed, variable_in, names_view}
 use Rattle.dpl_readings.specs.Readings.{outside, forall_of, step_in, else_in, row_in, steps_in}
 
 module _ (w : Standing) where
@@ -32,8 +33,8 @@ module _ (w : Standing) where
   pub if_in : (e : Bor BoolExpr) (body : Bor (List Step)) (otherwise : ElseNode) → step_in w (IfStep e body otherwise) ≡ If nowhere (truth_view e.now) (listed (steps_in w body.now)) (else_in w otherwise)
   if_in e body otherwise = ap (λ ts. If nowhere (truth_view e.now) (listed ts) (else_in w otherwise)) (row_in-row w body.now)
 
-  pub while_in : (at : Bor Place) (e : Bor BoolExpr) (body : Bor (List Step)) → step_in w (WhileStep at e body) ≡ Headed WhileWord at.now (truth_view e.now) (listed (steps_in w body.now))
-  while_in at e body = ap (λ ts. Headed WhileWord at.now (truth_view e.now) (listed ts)) (row_in-row w body.now)
+  pub headed_in : (word : StepWord) (at : Bor Place) (e : Bor BoolExpr) (body : Bor (List Step)) → step_in w (HeadedStep word at e body) ≡ Headed (step_word word) at.now (truth_view e.now) (listed (steps_in w body.now))
+  headed_in word at e body = ap (λ ts. Headed (step_word word) at.now (truth_view e.now) (listed ts)) (row_in-row w body.now)
 
   pub for_in : (at : Bor Place) (slot : ℕ) (over : Bor RangeExpr) (body : Bor (List Step)) → step_in w (ForStep at slot over body) ≡ Loop ForWord at.now (variable_in slot) nowhere (range_item over.now) None (listed (steps_in w body.now))
   for_in at slot over body = ap (λ ts. Loop ForWord at.now (variable_in slot) nowhere (range_item over.now) None (listed ts)) (row_in-row w body.now)

@@ -2,16 +2,16 @@
 -- the plain statement that it stands for.
 use Rattle.std.specs.Prelude.{List, [], ◌∷◌, map, None}
 use Rattle.dpl_syntax.specs.declared.place.Place.{Place}
-use Rattle.dpl_language.specs.Tree.{ItemTree, One, VariablesTree, WhileWord, ForWord, ForallWord, StmtTree, Nothing, Block, If, Headed, Loop, Stmts, NoStmts, Then, Else, NoElse, ElseDo}
+use Rattle.dpl_language.specs.Tree.{ItemTree, One, VariablesTree, ForWord, ForallWord, StmtTree, Nothing, Block, If, Headed, Loop, Stmts, NoStmts, Then, Else, NoElse, ElseDo}
 use Rattle.dpl_lowered.specs.Shapes.{nowhere}
 use Rattle.dpl_lowered.specs.LoweredStatements.{with_intents}
 use Rattle.dpl_memory.specs.Memory.{Variable}
 use Rattle.dpl_standing.specs.Standing.{Standing, Outside, InTurn}
 use Rattle.dpl_nodes.specs.declared.step.Intent.{Intent}
-use Rattle.dpl_nodes.specs.declared.step.Step.{Step, Nothing as NothingStep, Int as IntStep, DeclareRange, SetRange, Truth as TruthStep, DeclareDomain, SetDomain, DeclareArray, SetElement, SetArray, SetTruthArray, Write as WriteStep, Block', If', While', For', Forall', ForEach', ForallEach', Row_of-Step, end_of-Step, more_of-Step}
+use Rattle.dpl_nodes.specs.declared.step.Step.{Step, Nothing as NothingStep, Int as IntStep, DeclareRange, SetRange, Truth as TruthStep, DeclareDomain, SetDomain, DeclareArray, SetElement, SetArray, SetTruthArray, Write as WriteStep, Block', If', Headed', For', Forall', ForEach', ForallEach', Row_of-Step, end_of-Step, more_of-Step}
 use Rattle.dpl_nodes.specs.declared.step.Else.{Else as ElseNode, Absent, Do'}
 use Rattle.dpl_nodes.specs.Typed.{truth_view, range_item, domain_view}
-use Rattle.dpl_nodes.specs.Steps.{variable_in, names_view, intent_view, written_as, listed, step_view}
+use Rattle.dpl_nodes.specs.Steps.{variable_in, names_view, intent_view, written_as, step_word, listed, step_view}
 
 -- what stands outside of foralls alone
 abbrev pub outside : Standing → StmtTree Variable → StmtTree Variable
@@ -38,7 +38,7 @@ abbrev mutual
   step_in w (WriteStep ends_line arguments) = outside w (written_as ends_line arguments.now)
   step_in w (Block' p shape row) = Block nowhere (row_in w row) nowhere
   step_in w (If' condition p shape row otherwise) = If nowhere (truth_view condition.now) (listed (row_in w row)) (else_in w otherwise)
-  step_in w (While' at condition p shape row) = Headed WhileWord at.now (truth_view condition.now) (listed (row_in w row))
+  step_in w (Headed' word at condition p shape row) = Headed (step_word word) at.now (truth_view condition.now) (listed (row_in w row))
   step_in w (For' at slot over p shape row) = Loop ForWord at.now (variable_in slot) nowhere (range_item over.now) None (listed (row_in w row))
   step_in w (Forall' at slot over changed p shape row) =
       outside w (forall_of at.now (variable_in slot) (range_item over.now) changed.now.reduced.now (row_in InTurn row))

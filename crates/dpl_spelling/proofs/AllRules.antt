@@ -23,7 +23,7 @@ rules_of_declarations = tt
 
 -- statements
 unfoldable rules_of_statements : ⊤
-unfolding statements.target_end statements.assign_sign statements.assignment_end statements.reset_call statements.cell_call statements.call_end statements.named_statement statements.argument statements.output statements.block statements.part statements.body statements.condition statements.consequence statements.alternative statements.if_else statements.while_loop statements.on_locale statements.variables statements.intent statements.with_intents statements.loop_head statements.for_loop statements.parallel_head statements.forall_loop statements.coforall_loop statements.simple_statement statements.plain_statement statements.statement
+unfolding statements.target_end statements.assign_sign statements.assignment_end statements.reset_call statements.cell_call statements.call_end statements.named_statement statements.argument statements.output statements.block statements.part statements.body statements.condition statements.consequence statements.alternative statements.if_else statements.headed statements.variables statements.intent statements.with_intents statements.loop_head statements.for_loop statements.parallel_head statements.parallel_loop statements.simple_statement statements.plain_statement statements.statement
 rules_of_statements = tt
 
 -- programs, and all of it

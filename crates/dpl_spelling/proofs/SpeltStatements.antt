@@ -8,7 +8,7 @@ use Rattle.dpl_syntax.specs.declared.token.Keyword.TheVariants as word_of
 use Rattle.dpl_syntax.specs.declared.token.Contextual.{Contextual}
 use Rattle.dpl_syntax.specs.Tokens.{contextual_text}
 use Rattle.dpl_language.specs.Names.{Text}
-use Rattle.dpl_language.specs.Tree.{Placed, Op, Block, Number, TruthWord, Named, LocalesWord, LocaleCount, HereWord, Grouped, DomainLiteral, Prefixed, Reduced, Chain, Postfixed, One, RangeItem, StartTree, StartExpr, StartTuple, MapTree, Stmts}
+use Rattle.dpl_language.specs.Tree.{Placed, Op, Block, Number, TruthWord, Named, LocalesWord, LocaleCount, HereWord, Grouped, DomainLiteral, Prefixed, Reduced, Chain, Postfixed, One, RangeItem, StartTree, StartExpr, StartTuple, MapTree, WhileWord, OnWord, ForallWord, CoforallWord, Stmts}
 use Rattle.dpl_grammar.specs.Classes.{Class}
 use Rattle.dpl_grammar.specs.Each.{Each, IfThere}
 use Rattle.dpl_grammar.specs.Rule.{Parts, Deep, Whole, Begun, token, below, means, ◌↓◌, deep}
@@ -17,7 +17,7 @@ use Rattle.dpl_grammar.proofs.Values.{of_token as of_any_token}
 use Rattle.dpl_spelling.specs.Nested.{Nested, Inside, OneItem, Tuple, Expression, Item, Statement, ItemBelow, ExpressionBelow, NegBelow, NotBelow, RedBelow, StartBelow, InsideBelow, StatementBelow, PlainBelow, nested, Rule, Late}
 use Rattle.dpl_spelling.specs.Expressions.{simple_base, base}
 use Rattle.dpl_spelling.specs.Declarations.{if_there, after_inside, tuple_end, inside, Bracket, bracket, holding, after_bracket, expression_end, start, Argument, nameless, after_argument, argument_end, item_name, start_name, box_argument, start_argument, block_map, cyclic_map, block_cyclic_map, map, mapped, scalar_kind, sync_type, domain_type, array_type, declared_type, typed, create_word, created, init, initial, Declared, declared, declare_end, declaration, config_declaration}
-use Rattle.dpl_spelling.specs.Statements.{element, target_end, assign_by, assign_sign, assignment_end, write_call, read_call, reset_call, cell_call, call_end, named_statement, argument, output, stmts_of, block, part, body, Condition, condition, Conditional, consequence, Otherwise, alternative, if_else, while_loop, on_locale, variables, reduce_operator, intent, with_intents, LoopHead, loop_head, for_loop, ParallelHead, parallel_head, forall_loop, coforall_loop, simple_statement, plain_statement, statement}
+use Rattle.dpl_spelling.specs.Statements.{element, target_end, assign_by, assign_sign, assignment_end, write_call, read_call, reset_call, cell_call, call_end, named_statement, argument, output, stmts_of, block, part, body, Condition, condition, Conditional, consequence, Otherwise, alternative, if_else, variables, reduce_operator, intent, with_intents, LoopHead, loop_head, headed, for_loop, parallel_loop, ParallelHead, parallel_head, simple_statement, plain_statement, statement}
 use Rattle.dpl_spelling.specs.Grammar.{Program, top, tops, program, grammar}
 use Rattle.dpl_spelling.specs.Theorem.{Spells}
 use Rattle.dpl_language.specs.Spelled.{SaysType}
@@ -327,13 +327,13 @@ module _ (P : Place → Type 0) (W : Type 0) (g : Deep nested) (inner : (n : Nes
       of_dangling ConditionalSpelt OtherwiseSpelt consequence_spelt alternative_spelt
       (λ c p. ((p.0.0, p.0.1, p.1, tt), tt)) (λ c o p q. ((p.0.0, p.0.1, p.1, q), tt))
 
-  while_loop_spelt : IsLate while_loop (InnerSpelt P W)
-  unfolding while_loop
-  while_loop_spelt = of_ended ConditionSpelt (BodySpelt P W) (condition_spelt _) (body_spelt _) (λ c b p q. ((p.0, p.1, q, tt), tt))
+  while_spelt : IsLate (headed word_of.While WhileWord) (InnerSpelt P W)
+  unfolding headed
+  while_spelt = of_ended ConditionSpelt (BodySpelt P W) (condition_spelt _) (body_spelt _) (λ c b p q. ((p.0, p.1, q, tt), tt))
 
-  on_locale_spelt : IsLate on_locale (InnerSpelt P W)
-  unfolding on_locale
-  on_locale_spelt = of_ended TaskConditionSpelt (BodySpelt P W) task_condition_spelt (body_spelt _) (λ c b p q. ((p.0, p.1, q, p.2), tt))
+  on_spelt : IsLate (headed word_of.On OnWord) (InnerSpelt P W)
+  unfolding headed
+  on_spelt = of_ended TaskConditionSpelt (BodySpelt P W) task_condition_spelt (body_spelt _) (λ c b p q. ((p.0, p.1, q, p.2), tt))
 
   -- LOOPS
   variables_spelt : Is P W g variables (VariablesSpelt P W)
@@ -393,13 +393,13 @@ module _ (P : Place → Type 0) (W : Type 0) (g : Deep nested) (inner : (n : Nes
   unfolding parallel_head
   coforall_head_spelt = of_parts (of_part tasks_head_spelt (λ l p. of_last (of_maybe with_intents_spelt) (λ w q. (p, q))))
 
-  forall_loop_spelt : IsLate forall_loop (InnerSpelt P W)
-  unfolding forall_loop
-  forall_loop_spelt = of_ended ParallelSpelt (BodySpelt P W) (parallel_head_spelt _) (body_spelt _) (λ h b p q. ((p.0.0, p.0.1, p.0.2, p.0.3, p.1, q, tt), tt))
+  forall_spelt : IsLate (parallel_loop word_of.Forall ForallWord) (InnerSpelt P W)
+  unfolding parallel_loop
+  forall_spelt = of_ended ParallelSpelt (BodySpelt P W) (parallel_head_spelt _) (body_spelt _) (λ h b p q. ((p.0.0, p.0.1, p.0.2, p.0.3, p.1, q, tt), tt))
 
-  coforall_loop_spelt : IsLate coforall_loop (InnerSpelt P W)
-  unfolding coforall_loop
-  coforall_loop_spelt = of_ended CoforallSpelt (BodySpelt P W) coforall_head_spelt (body_spelt _) (λ h b p q. ((p.0.0.0, p.0.0.1, p.0.0.2, p.0.0.3, p.1, q, p.0.1), tt))
+  coforall_spelt : IsLate (parallel_loop word_of.Coforall CoforallWord) (InnerSpelt P W)
+  unfolding parallel_loop
+  coforall_spelt = of_ended CoforallSpelt (BodySpelt P W) coforall_head_spelt (body_spelt _) (λ h b p q. ((p.0.0.0, p.0.0.1, p.0.0.2, p.0.0.3, p.1, q, p.0.1), tt))
 
   -- ALL STATEMENTS
   simple_statement_spelt : Is P W g simple_statement (InnerSpelt P W)
@@ -409,7 +409,7 @@ module _ (P : Place → Type 0) (W : Type 0) (g : Deep nested) (inner : (n : Nes
   pub plain_statement_spelt : IsLate plain_statement (InnerSpelt P W)
   unfolding plain_statement
   plain_statement_spelt =
-      of_choice (of_closed simple_statement_spelt) (of_choice if_else_spelt (of_choice while_loop_spelt (of_choice for_loop_spelt (of_choice forall_loop_spelt (of_choice coforall_loop_spelt on_locale_spelt)))))
+      of_choice (of_closed simple_statement_spelt) (of_choice if_else_spelt (of_choice while_spelt (of_choice for_loop_spelt (of_choice forall_spelt (of_choice coforall_spelt on_spelt)))))
 
   pub statement_spelt : IsLate statement (InnerSpelt P W)
   unfolding statement

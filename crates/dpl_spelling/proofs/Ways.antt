@@ -4,7 +4,7 @@ use Rattle.std.proofs.Common.{◌≡◌, ℕ, List, ◌++◌, cond, refl, ap}
 use Rattle.dpl_syntax.specs.declared.token.Token.{Token}
 use Rattle.dpl_syntax.specs.declared.token.Keyword.TheVariants as word_of
 use Rattle.dpl_syntax.specs.declared.token.Sign.TheVariants as sign_of
-use Rattle.dpl_language.specs.Tree.{InitTree, ItemInit, Block, UseTree}
+use Rattle.dpl_language.specs.Tree.{InitTree, ItemInit, WhileWord, OnWord, ForallWord, CoforallWord, Block, UseTree}
 use Rattle.dpl_grammar.specs.Classes.{Class, sign, keyword}
 use Rattle.dpl_grammar.specs.Reader.{Reader, next_in, many_at}
 use Rattle.dpl_grammar.specs.Rule.{below, many, maybe, ◌⟶◌, ◌⨾◌, ◌∎}
@@ -12,7 +12,7 @@ use Rattle.dpl_grammar.specs.Reading.{first}
 use Rattle.dpl_spelling.specs.Nested.{begins, begins_expression, StatementBelow, PlainBelow, Rule}
 use Rattle.dpl_spelling.specs.Expressions.{item}
 use Rattle.dpl_spelling.specs.Declarations.{mapped, created, init, config_declaration}
-use Rattle.dpl_spelling.specs.Statements.{block, part, if_else, while_loop, on_locale, for_loop, forall_loop, coforall_loop, simple_statement, plain_statement, statement}
+use Rattle.dpl_spelling.specs.Statements.{block, part, if_else, headed, for_loop, parallel_loop, simple_statement, plain_statement, statement}
 use Rattle.dpl_spelling.specs.Grammar.{use_line, top, grammar}
 use Rattle.dpl_grammar.proofs.Flat.{read_anywhere}
 use Rattle.dpl_spelling.specs.Parts.{begins_simple}
@@ -40,11 +40,11 @@ read_part d ts = refl
 pub read_plain : (d : ℕ) (ts : List Token) → late_at plain_statement d ts ≡
     cond (next_in begins_simple ts) (at simple_statement d ts)
     (cond (next_in (keyword word_of.If) ts) (late_at if_else d ts)
-    (cond (next_in (keyword word_of.While) ts) (late_at while_loop d ts)
+    (cond (next_in (keyword word_of.While) ts) (late_at (headed word_of.While WhileWord) d ts)
     (cond (next_in (keyword word_of.For) ts) (late_at for_loop d ts)
-    (cond (next_in (keyword word_of.Forall) ts) (late_at forall_loop d ts)
-    (cond (next_in (keyword word_of.Coforall) ts) (late_at coforall_loop d ts)
-    (late_at on_locale d ts))))))
+    (cond (next_in (keyword word_of.Forall) ts) (late_at (parallel_loop word_of.Forall ForallWord) d ts)
+    (cond (next_in (keyword word_of.Coforall) ts) (late_at (parallel_loop word_of.Coforall CoforallWord) d ts)
+    (late_at (headed word_of.On OnWord) d ts))))))
 unfolding all_rules
 read_plain d ts = refl
 

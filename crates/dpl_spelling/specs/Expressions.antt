@@ -89,14 +89,8 @@ expand = token (contextual contextual_of.Expand) ⨾ sign sign_of.OpenRound ↓ 
 abbrev pub plain_words : (Class × Word) × List (Class × Word)
 plain_words = (
   (contextual contextual_of.Size, Size),
-  (contextual contextual_of.First, First)
-      ∷ (contextual contextual_of.Last, Last)
-      ∷ (contextual contextual_of.Low, Low)
-      ∷ (contextual contextual_of.High, High)
-      ∷ (contextual contextual_of.LowBound, LowBound)
-      ∷ (keyword word_of.Domain, DomainOf)
-      ∷ (contextual contextual_of.Id, Id)
-      ∷ [],
+  (contextual contextual_of.First, First) ∷ (contextual contextual_of.Last, Last) ∷ (contextual contextual_of.Low, Low) ∷ (contextual contextual_of.High, High)
+      ∷ (contextual contextual_of.LowBound, LowBound) ∷ (keyword word_of.Domain, DomainOf) ∷ (contextual contextual_of.Id, Id) ∷ [],
 )
 
 -- the one word, or one of the others

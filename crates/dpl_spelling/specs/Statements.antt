@@ -6,7 +6,7 @@ use Rattle.dpl_syntax.specs.declared.token.Keyword.{Keyword}
 use Rattle.dpl_syntax.specs.declared.token.Keyword.TheVariants as word_of
 use Rattle.dpl_syntax.specs.declared.token.Contextual.TheVariants as contextual_of
 use Rattle.dpl_syntax.specs.declared.token.Sign.TheVariants as sign_of
-use Rattle.dpl_language.specs.Tree.{Placed, Op, Assign, AssignTree, Set, SetAdd, SetSubtract, SetMultiply, SetDivide, SetRemainder, SetReduce, ReadWord, ReadFEWord, ReadFFWord, WriteWord, WriteEFWord, WriteFFWord, WriteXFWord, ArgumentTree, TextArgument, ExprArgument, IntentTree, ReduceIntent, RefIntent, WithTree, VariablesTree, OneVariable, ManyVariables, BracketPair, Square, Round, TargetTree, Whole, Element, CallTree, ReadCall, ResetCall, WriteCall, Nothing, Assigned, Call, Write, Block, If, Headed, Loop, Body, WordBody, BlockBody, Stmts, NoStmts, Then, NoElse, ElseDo, WhileWord, OnWord, ForWord, ForallWord, CoforallWord}
+use Rattle.dpl_language.specs.Tree.{Placed, Op, Assign, AssignTree, Set, SetAdd, SetSubtract, SetMultiply, SetDivide, SetRemainder, SetReduce, ReadWord, ReadFEWord, ReadFFWord, WriteWord, WriteEFWord, WriteFFWord, WriteXFWord, ArgumentTree, TextArgument, ExprArgument, IntentTree, ReduceIntent, RefIntent, WithTree, VariablesTree, OneVariable, ManyVariables, BracketPair, Square, Round, TargetTree, Whole, Element, CallTree, ReadCall, ResetCall, WriteCall, Nothing, Assigned, Call, Write, Block, If, Headed, Loop, Body, WordBody, BlockBody, Stmts, NoStmts, Then, NoElse, ElseDo, HeadWord, WhileWord, OnWord, LoopWord, ForWord, ForallWord, CoforallWord}
 use Rattle.dpl_grammar.specs.Classes.{Class, texts, sign, keyword, contextual}
 use Rattle.dpl_grammar.specs.Rule.{token, below, either, many, ◌⟶◌, ◌⨾◌, ◌↓◌, ◌∎, done, maybe, means, closed, lower, choice, ended, dangling}
 use Rattle.dpl_spelling.specs.Nested.{Expression, Item, Statement, ExpressionBelow, StatementBelow, PlainBelow, takes_else, body_takes_else, Rule, Late}
@@ -135,13 +135,9 @@ alternative = ended (token (keyword word_of.Else)) part (λ k s. record { at = k
 unfoldable pub if_else : Late Statement takes_else
 if_else = dangling consequence alternative (λ c. If c.condition.at c.condition.value c.body NoElse) (λ c o. If c.condition.at c.condition.value c.body (ElseDo o.at o.stmt)) (λ c. refl) (λ c o. refl)
 
--- "while" expr body
-unfoldable pub while_loop : Late Statement takes_else
-while_loop = ended (condition word_of.While) (body word_of.Do) (λ c b. Headed WhileWord c.at c.value b) (λ c b. refl)
-
--- "on" expr body
-unfoldable pub on_locale : Late Statement takes_else
-on_locale = ended (condition word_of.On) (body word_of.Do) (λ c b. Headed OnWord c.at c.value b) (λ c b. refl)
+-- ("while" | "on") expr body
+unfoldable pub headed : Keyword → HeadWord → Late Statement takes_else
+headed wanted word = ended (condition wanted) (body word_of.Do) (λ c b. Headed word c.at c.value b) (λ c b. refl)
 
 -- vars = name | "(" name "," name [ "," name ] ")"
 unfoldable pub variables : Rule (VariablesTree (List ℕ))
@@ -186,13 +182,9 @@ pub record ParallelHead : Type 0 where
 unfoldable pub parallel_head : Keyword → Rule ParallelHead
 parallel_head word = loop_head word ⨾ maybe with_intents ∎ ⟶ λ h w. record { loop = h; with = w }
 
--- "forall" vars "in" item [ with ] body
-unfoldable pub forall_loop : Late Statement takes_else
-forall_loop = ended (parallel_head word_of.Forall) (body word_of.Do) (λ h b. Loop ForallWord h.loop.at h.loop.variables h.loop.within h.loop.over h.with b) (λ h b. refl)
-
--- "coforall" vars "in" item [ with ] body
-unfoldable pub coforall_loop : Late Statement takes_else
-coforall_loop = ended (parallel_head word_of.Coforall) (body word_of.Do) (λ h b. Loop CoforallWord h.loop.at h.loop.variables h.loop.within h.loop.over h.with b) (λ h b. refl)
+-- ("forall" | "coforall") vars "in" item [ with ] body
+unfoldable pub parallel_loop : Keyword → LoopWord → Late Statement takes_else
+parallel_loop wanted word = ended (parallel_head wanted) (body word_of.Do) (λ h b. Loop word h.loop.at h.loop.variables h.loop.within h.loop.over h.with b) (λ h b. refl)
 
 -- a statement that is no block and has no body
 unfoldable pub simple_statement : Rule Statement
@@ -200,7 +192,8 @@ simple_statement = either declaration (either (token (sign sign_of.Semicolon) �
 
 -- a statement that is no block
 unfoldable pub plain_statement : Late Statement takes_else
-plain_statement = choice (closed simple_statement) (choice if_else (choice while_loop (choice for_loop (choice forall_loop (choice coforall_loop on_locale)))))
+plain_statement = choice (closed simple_statement) (choice if_else (choice (headed word_of.While WhileWord)
+    (choice for_loop (choice (parallel_loop word_of.Forall ForallWord) (choice (parallel_loop word_of.Coforall CoforallWord) (headed word_of.On OnWord))))))
 
 -- stmt = ("const" | "var") declrest | block | ";" | target assignop item ";" | name "." cellcall ";" | ("write" | "writeln") ..
 --     | "if" .. | "while" .. | "for" .. | "forall" .. | "coforall" .. | "on" ..

@@ -5,11 +5,11 @@ ghost use Rattle.std.specs.Prelude.{◌≡◌, ◌+◌, ◌<◌, ◌≤◌, leng
 ghost use Rattle.dpl_language.specs.Tree.{Block as BlockTree};
 ghost use Rattle.dpl_grammar.specs.Gives.{Gives};
 ghost use Rattle.dpl_grammar.specs.Rule.{below, many};
-ghost use Rattle.dpl_tree.specs.Statements.{stmt_view, body_view};
+ghost use Rattle.dpl_tree.specs.Statements.{head_word, parallel_word, stmt_view, body_view};
 ghost use Rattle.dpl_spelling.specs.Nested.{StatementBelow};
 ghost use Rattle.dpl_spelling.specs.Statements.{block as block_rule, part as part_rule, body as body_rule, if_else as if_else_rule};
-ghost use Rattle.dpl_spelling.specs.Statements.{while_loop as while_loop_rule, on_locale as on_locale_rule, for_loop as for_loop_rule};
-ghost use Rattle.dpl_spelling.specs.Statements.{forall_loop as forall_loop_rule, coforall_loop as coforall_loop_rule, simple_statement as simple_statement_rule};
+ghost use Rattle.dpl_spelling.specs.Statements.{headed as headed_rule, for_loop as for_loop_rule, parallel_loop as parallel_loop_rule};
+ghost use Rattle.dpl_spelling.specs.Statements.{simple_statement as simple_statement_rule};
 ghost use Rattle.dpl_spelling.specs.Statements.{plain_statement as plain_statement_rule, statement as statement_rule};
 ghost use Rattle.dpl_spelling.specs.Reading.{at, late_at};
 
@@ -24,7 +24,7 @@ use dpl_expressions::token::{
     unexpected,
 };
 use dpl_syntax::{Keyword, Sign, Token};
-use dpl_tree::{Arena, Body, Coforall, Else, For, Forall, If, On, Stmt, While};
+use dpl_tree::{Arena, Body, Else, For, HeadWord, Headed, If, Parallel, ParallelWord, Stmt};
 
 /// stmt = block | a statement that is no block
 #[cycle(statement)]
@@ -138,38 +138,28 @@ fn if_else<'t>(arena: Arena<'t>, room: u32, tokens: Tokens<'t>) -> Parsed<'t, St
     Ok((Stmt::If(arena.node(node)?), rest))
 }
 
-/// "while" expr body
+/// ("while" | "on") expr body
 #[cycle(statement)]
-#[tactic(auto, unfolding(dpl_spelling::specs::Statements::while_loop))]
-fn while_loop<'t>(arena: Arena<'t>, room: u32, tokens: Tokens<'t>) -> Parsed<'t, Stmt<'t>>
-    ensures gives { Gives (λ x. (stmt_view x.0, x.1.now)) result (late_at while_loop_rule room tokens.now) }
+#[tactic(auto, unfolding(dpl_spelling::specs::Statements::headed))]
+fn headed<'t>(
+    arena: Arena<'t>,
+    room: u32,
+    wanted: Keyword,
+    word: HeadWord,
+    tokens: Tokens<'t>,
+) -> Parsed<'t, Stmt<'t>>
+    ensures gives { Gives (λ x. (stmt_view x.0, x.1.now)) result (late_at (headed_rule wanted (head_word word)) room tokens.now) }
     ensures shorter { IfOk result (λ x. length x.1.now < length tokens.now) }
 {
-    let (guard, rest) = condition(arena, room, Keyword::While, tokens)?;
+    let (guard, rest) = condition(arena, room, wanted, tokens)?;
     let (body, rest) = body(arena, room, Keyword::Do, rest)?;
-    let node = While {
+    let node = Headed {
+        word,
         at: guard.at,
-        condition: guard.value,
+        value: guard.value,
         body,
     };
-    Ok((Stmt::While(arena.node(node)?), rest))
-}
-
-/// "on" expr body
-#[cycle(statement)]
-#[tactic(auto, unfolding(dpl_spelling::specs::Statements::on_locale))]
-fn on_locale<'t>(arena: Arena<'t>, room: u32, tokens: Tokens<'t>) -> Parsed<'t, Stmt<'t>>
-    ensures gives { Gives (λ x. (stmt_view x.0, x.1.now)) result (late_at on_locale_rule room tokens.now) }
-    ensures shorter { IfOk result (λ x. length x.1.now < length tokens.now) }
-{
-    let (guard, rest) = condition(arena, room, Keyword::On, tokens)?;
-    let (body, rest) = body(arena, room, Keyword::Do, rest)?;
-    let node = On {
-        at: guard.at,
-        locale: guard.value,
-        body,
-    };
-    Ok((Stmt::On(arena.node(node)?), rest))
+    Ok((Stmt::Headed(arena.node(node)?), rest))
 }
 
 /// "for" vars "in" item body
@@ -191,16 +181,23 @@ fn for_loop<'t>(arena: Arena<'t>, room: u32, tokens: Tokens<'t>) -> Parsed<'t, S
     Ok((Stmt::For(arena.node(node)?), rest))
 }
 
-/// "forall" vars "in" item [ with ] body
+/// ("forall" | "coforall") vars "in" item [ with ] body
 #[cycle(statement)]
-#[tactic(auto, unfolding(dpl_spelling::specs::Statements::forall_loop))]
-fn forall_loop<'t>(arena: Arena<'t>, room: u32, tokens: Tokens<'t>) -> Parsed<'t, Stmt<'t>>
-    ensures gives { Gives (λ x. (stmt_view x.0, x.1.now)) result (late_at forall_loop_rule room tokens.now) }
+#[tactic(auto, unfolding(dpl_spelling::specs::Statements::parallel_loop))]
+fn parallel_loop<'t>(
+    arena: Arena<'t>,
+    room: u32,
+    wanted: Keyword,
+    word: ParallelWord,
+    tokens: Tokens<'t>,
+) -> Parsed<'t, Stmt<'t>>
+    ensures gives { Gives (λ x. (stmt_view x.0, x.1.now)) result (late_at (parallel_loop_rule wanted (parallel_word word)) room tokens.now) }
     ensures shorter { IfOk result (λ x. length x.1.now < length tokens.now) }
 {
-    let ((head, with), rest) = parallel_head(arena, room, Keyword::Forall, tokens)?;
+    let ((head, with), rest) = parallel_head(arena, room, wanted, tokens)?;
     let (body, rest) = body(arena, room, Keyword::Do, rest)?;
-    let node = Forall {
+    let node = Parallel {
+        word,
         at: head.at,
         variables: head.variables,
         within: head.within,
@@ -208,27 +205,7 @@ fn forall_loop<'t>(arena: Arena<'t>, room: u32, tokens: Tokens<'t>) -> Parsed<'t
         with,
         body,
     };
-    Ok((Stmt::Forall(arena.node(node)?), rest))
-}
-
-/// "coforall" vars "in" item [ with ] body
-#[cycle(statement)]
-#[tactic(auto, unfolding(dpl_spelling::specs::Statements::coforall_loop))]
-fn coforall_loop<'t>(arena: Arena<'t>, room: u32, tokens: Tokens<'t>) -> Parsed<'t, Stmt<'t>>
-    ensures gives { Gives (λ x. (stmt_view x.0, x.1.now)) result (late_at coforall_loop_rule room tokens.now) }
-    ensures shorter { IfOk result (λ x. length x.1.now < length tokens.now) }
-{
-    let ((head, with), rest) = parallel_head(arena, room, Keyword::Coforall, tokens)?;
-    let (body, rest) = body(arena, room, Keyword::Do, rest)?;
-    let node = Coforall {
-        at: head.at,
-        variables: head.variables,
-        within: head.within,
-        over: head.over,
-        with,
-        body,
-    };
-    Ok((Stmt::Coforall(arena.node(node)?), rest))
+    Ok((Stmt::Parallel(arena.node(node)?), rest))
 }
 
 /// A statement that is no block and has no body.
@@ -261,14 +238,20 @@ fn plain_statement<'t>(arena: Arena<'t>, room: u32, tokens: Tokens<'t>) -> Parse
     } else if is_keyword(tokens, Keyword::If) {
         if_else(arena, room, tokens)
     } else if is_keyword(tokens, Keyword::While) {
-        while_loop(arena, room, tokens)
+        headed(arena, room, Keyword::While, HeadWord::While, tokens)
     } else if is_keyword(tokens, Keyword::For) {
         for_loop(arena, room, tokens)
     } else if is_keyword(tokens, Keyword::Forall) {
-        forall_loop(arena, room, tokens)
+        parallel_loop(arena, room, Keyword::Forall, ParallelWord::Forall, tokens)
     } else if is_keyword(tokens, Keyword::Coforall) {
-        coforall_loop(arena, room, tokens)
+        parallel_loop(
+            arena,
+            room,
+            Keyword::Coforall,
+            ParallelWord::Coforall,
+            tokens,
+        )
     } else {
-        on_locale(arena, room, tokens)
+        headed(arena, room, Keyword::On, HeadWord::On, tokens)
     }
 }

@@ -19,11 +19,9 @@ fn takes_else(stmt: &Stmt<'_>) -> bool
             Else::Absent => true,
             Else::Do(_, last) => takes_else(last),
         },
-        Stmt::While(node) => body_takes_else(&node.body),
+        Stmt::Headed(node) => body_takes_else(&node.body),
         Stmt::For(node) => body_takes_else(&node.body),
-        Stmt::Forall(node) => body_takes_else(&node.body),
-        Stmt::Coforall(node) => body_takes_else(&node.body),
-        Stmt::On(node) => body_takes_else(&node.body),
+        Stmt::Parallel(node) => body_takes_else(&node.body),
     }
 }
 

@@ -25,7 +25,7 @@ use dpl_elements::{set_array, set_truth_array};
 use dpl_frame::{FaultCode, Frame, RangeWord, Trap};
 use dpl_loop::RunStop;
 use dpl_loop::stop::told;
-use dpl_nodes::{BoolExpr, Else, RangeExpr, Spot, Step};
+use dpl_nodes::{BoolExpr, Else, RangeExpr, Spot, Step, StepWord};
 use dpl_range::Range;
 use dpl_simple::{
     declare_array, declare_domain, direct_statement, direct_statements, is_met, set_domain, simple,
@@ -182,7 +182,8 @@ fn any_statement<'t, C: Context>(
                 alternative(otherwise, context, frame, out)
             }
         }
-        Step::While {
+        Step::Headed {
+            word: StepWord::While,
             at,
             condition,
             body,

@@ -21,14 +21,18 @@ use Rattle.dpl_tree.specs.declared.statement.Target.TheVariants as target
 use Rattle.dpl_tree.specs.declared.statement.AssignSign.{AssignSign}
 use Rattle.dpl_tree.specs.declared.statement.Call.{Call as CallNode}
 use Rattle.dpl_tree.specs.declared.statement.Call.TheVariants as call
-use Rattle.dpl_tree.specs.declared.statement.Stmt.{Stmt, Nothing as NothingNode, Declare as DeclareNode, Assigned as AssignedNode, Call as CellCallNode, Write as WriteStmt, Block', If', While', For', Forall', Coforall', On', Row_of-Stmt, end_of-Stmt, more_of-Stmt}
+use Rattle.dpl_tree.specs.declared.statement.HeadWord.{HeadWord as HeadWordNode}
+use Rattle.dpl_tree.specs.declared.statement.HeadWord.TheVariants as head
+use Rattle.dpl_tree.specs.declared.statement.ParallelWord.{ParallelWord}
+use Rattle.dpl_tree.specs.declared.statement.ParallelWord.TheVariants as parallel
+use Rattle.dpl_tree.specs.declared.statement.Stmt.{Stmt, Nothing as NothingNode, Declare as DeclareNode, Assigned as AssignedNode, Call as CellCallNode, Write as WriteStmt, Block', If', Headed', For', Parallel', Row_of-Stmt, end_of-Stmt, more_of-Stmt}
 use Rattle.dpl_tree.specs.declared.statement.Body.{Body as BodyNode, Word', Block' as BlockBody'}
 use Rattle.dpl_tree.specs.declared.statement.Else.{Else as ElseNode, Absent, Do'}
 use Rattle.dpl_tree.specs.declared.statement.ModuleName.{ModuleName}
 use Rattle.dpl_tree.specs.declared.statement.NextModule.{NextModule}
 use Rattle.dpl_tree.specs.declared.statement.Use.{Use}
 use Rattle.dpl_tree.specs.declared.statement.Program.{Program}
-use Rattle.dpl_language.specs.Tree.{Placed, AfterComma, Listed, ArgumentTree, TextArgument, ExprArgument, WriteTree, IntentTree, ReduceIntent, RefIntent, WithTree, VariablesTree, OneVariable, ManyVariables, TargetTree, Whole, Element, AssignTree, CallTree, ReadCall, ResetCall, WriteCall, WhileWord, OnWord, ForWord, ForallWord, CoforallWord, StmtTree, Nothing, Declare, Assigned, Call, Write, Block, If, Headed, Loop, Body, WordBody, BlockBody, Stmts, NoStmts, Then, Else, NoElse, ElseDo, ModuleTree, UseTree, ProgramTree}
+use Rattle.dpl_language.specs.Tree.{Placed, AfterComma, Listed, ArgumentTree, TextArgument, ExprArgument, WriteTree, IntentTree, ReduceIntent, RefIntent, WithTree, VariablesTree, OneVariable, ManyVariables, TargetTree, Whole, Element, AssignTree, CallTree, ReadCall, ResetCall, WriteCall, HeadWord, WhileWord, OnWord, LoopWord, ForWord, ForallWord, CoforallWord, StmtTree, Nothing, Declare, Assigned, Call, Write, Block, If, Headed, Loop, Body, WordBody, BlockBody, Stmts, NoStmts, Then, Else, NoElse, ElseDo, ModuleTree, UseTree, ProgramTree}
 
 abbrev pub argument_view : Argument → Spelled ArgumentTree
 argument_view (Text at bytes) = TextArgument at (text_value bytes.now)
@@ -72,6 +76,14 @@ call_view (call.Read at word from upto) = ReadCall at word from upto
 call_view (call.Reset at from upto) = ResetCall at from upto
 call_view (call.Write at word from e upto) = WriteCall at word from (expr_view e.now) upto
 
+abbrev pub head_word : HeadWordNode → HeadWord
+head_word head.While = WhileWord
+head_word head.On = OnWord
+
+abbrev pub parallel_word : ParallelWord → LoopWord
+parallel_word parallel.Forall = ForallWord
+parallel_word parallel.Coforall = CoforallWord
+
 abbrev mutual
   pub stmt_view : Stmt → Spelled StmtTree
   stmt_view (NothingNode at) = Nothing at
@@ -81,11 +93,9 @@ abbrev mutual
   stmt_view (WriteStmt w) = Write (written_view w.now)
   stmt_view (Block' p from q shape row upto) = Block from (stmts_view row) upto
   stmt_view (If' p at condition body otherwise) = If at (expr_view condition.now) (body_view body) (else_view otherwise)
-  stmt_view (While' p at condition body) = Headed WhileWord at (expr_view condition.now) (body_view body)
+  stmt_view (Headed' p word at e body) = Headed (head_word word) at (expr_view e.now) (body_view body)
   stmt_view (For' p at xs within over body) = Loop ForWord at (variables_view xs) within (item_view over) None (body_view body)
-  stmt_view (Forall' p at xs within over with body) = Loop ForallWord at (variables_view xs) within (item_view over) (optional with_view with) (body_view body)
-  stmt_view (Coforall' p at xs within over with body) = Loop CoforallWord at (variables_view xs) within (item_view over) (optional with_view with) (body_view body)
-  stmt_view (On' p at locale body) = Headed OnWord at (expr_view locale.now) (body_view body)
+  stmt_view (Parallel' p word at xs within over with body) = Loop (parallel_word word) at (variables_view xs) within (item_view over) (optional with_view with) (body_view body)
 
   pub body_view : BodyNode → Spelled Body
   body_view (Word' at p s) = WordBody at (stmt_view s)

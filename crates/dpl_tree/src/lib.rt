@@ -24,7 +24,7 @@ pub use expression::{
     Post, Postfixed, Range, Reduction, Stride,
 };
 pub use statement::{
-    Argument, Arguments, AssignSign, Assignment, Block, Body, Call, CellCall, Coforall, Element,
-    Else, For, Forall, If, Intent, ModuleName, NextArgument, NextIntent, NextModule, NextName, On,
-    Program, Stmt, Target, Use, Variables, While, With, Write,
+    Argument, Arguments, AssignSign, Assignment, Block, Body, Call, CellCall, Element, Else, For,
+    HeadWord, Headed, If, Intent, ModuleName, NextArgument, NextIntent, NextModule, NextName,
+    Parallel, ParallelWord, Program, Stmt, Target, Use, Variables, With, Write,
 };

@@ -136,6 +136,20 @@ pub struct CellCall<'t> {
     pub semicolon: Place,
 }
 
+/// The words of statements that are an expression and a body: a condition behind `while`, a locale behind `on`.
+#[derive(Clone, Copy, PartialEq, Eq, Debug)]
+pub enum HeadWord {
+    While,
+    On,
+}
+
+/// The words of loops that may have intents.
+#[derive(Clone, Copy, PartialEq, Eq, Debug)]
+pub enum ParallelWord {
+    Forall,
+    Coforall,
+}
+
 /// A statement.
 #[cycle(statement)]
 #[derive(Clone, Copy)]
@@ -148,11 +162,9 @@ pub enum Stmt<'t> {
     Write(&'t Write<'t>),
     Block(&'t Block<'t>),
     If(&'t If<'t>),
-    While(&'t While<'t>),
+    Headed(&'t Headed<'t>),
     For(&'t For<'t>),
-    Forall(&'t Forall<'t>),
-    Coforall(&'t Coforall<'t>),
-    On(&'t On<'t>),
+    Parallel(&'t Parallel<'t>),
 }
 
 /// `{` statements `}`
@@ -190,12 +202,13 @@ pub struct If<'t> {
     pub otherwise: Else<'t>,
 }
 
-/// `while` condition body
+/// word expression body
 #[cycle(statement)]
 #[derive(Clone, Copy)]
-pub struct While<'t> {
+pub struct Headed<'t> {
+    pub word: HeadWord,
     pub at: Place,
-    pub condition: &'t Expr<'t>,
+    pub value: &'t Expr<'t>,
     pub body: Body<'t>,
 }
 
@@ -210,36 +223,16 @@ pub struct For<'t> {
     pub body: Body<'t>,
 }
 
-/// `forall` variables `in` item, perhaps intents, body
+/// word variables `in` item, perhaps intents, body
 #[cycle(statement)]
 #[derive(Clone, Copy)]
-pub struct Forall<'t> {
+pub struct Parallel<'t> {
+    pub word: ParallelWord,
     pub at: Place,
     pub variables: Variables<'t>,
     pub within: Place,
     pub over: Item<'t>,
     pub with: Option<With<'t>>,
-    pub body: Body<'t>,
-}
-
-/// `coforall` variables `in` item, perhaps intents, body
-#[cycle(statement)]
-#[derive(Clone, Copy)]
-pub struct Coforall<'t> {
-    pub at: Place,
-    pub variables: Variables<'t>,
-    pub within: Place,
-    pub over: Item<'t>,
-    pub with: Option<With<'t>>,
-    pub body: Body<'t>,
-}
-
-/// `on` locale body
-#[cycle(statement)]
-#[derive(Clone, Copy)]
-pub struct On<'t> {
-    pub at: Place,
-    pub locale: &'t Expr<'t>,
     pub body: Body<'t>,
 }
 

@@ -1,27 +1,25 @@
 -- Typed statements in a turn: what is to be tested of each, so that it fits and is silent.
-use Rattle.std.proofs.Common.{List, [], ◌∷◌, ◌≡◌, ℕ, true, false, Some, None, refl, sym, subst}
-use Rattle.std.specs.List.{AllByRecursion}
+use Rattle.std.proofs.Common.{[], ◌≡◌, ℕ, true, false, Some, None, refl, sym, subst}
 use Rattle.dpl_syntax.specs.declared.place.Place.{Place}
-use Rattle.dpl_language.specs.Tree.{Assign, Kind, IntKind, BoolKind, ExprTree, ItemTree, One, WhileWord, ForWord, StmtTree, Block, If, Headed, Loop, Stmts, Then, Else, ElseDo}
+use Rattle.dpl_language.specs.Tree.{Assign, Kind, IntKind, BoolKind, ExprTree, ItemTree, One, StmtTree, Block, If, Headed, Stmts, Then, Else, ElseDo}
 use Rattle.dpl_language.specs.Values.{Index}
 use Rattle.dpl_language.specs.Phrases.{cell_read, item_read}
 use Rattle.dpl_lowered.specs.Shapes.{nowhere}
 use Rattle.dpl_words.specs.Words.{LeafKind, IntLeaf, TruthLeaf, RangeLeaf}
-use Rattle.dpl_memory.specs.Memory.{PlainKind, TupleKind, Variable, variable, int_leaf, truth_leaf, range_leaf, is_among}
-use Rattle.dpl_agreement.specs.Scopes.{PlainForm, items_in, fits_expr, fits_item, fits_exprs, fits_read, fits, fits_all, fits_else, fits_each, holds_ints}
+use Rattle.dpl_memory.specs.Memory.{PlainKind, Variable, variable, int_leaf, truth_leaf, range_leaf, is_among}
+use Rattle.dpl_agreement.specs.Scopes.{PlainForm, items_in, fits_expr, fits_item, fits_exprs, fits_read, fits, fits_all, fits_else}
 use Rattle.dpl_nodes.specs.declared.tree.IntExpr.{IntExpr}
 use Rattle.dpl_nodes.specs.declared.tree.BoolExpr.{BoolExpr}
 use Rattle.dpl_nodes.specs.declared.tree.RangeExpr.{RangeExpr, Local as RangeLocal, Between', Slice', Dimension'}
 use Rattle.dpl_nodes.specs.declared.tree.IndexExpr.{IndexExpr}
 use Rattle.dpl_nodes.specs.declared.step.ArrayName.{ArrayName}
-use Rattle.dpl_nodes.specs.declared.step.Names.{Names}
-use Rattle.dpl_nodes.specs.declared.step.Names.TheVariants.{Int as IntName, Tuple as TupleName, Each}
+use Rattle.dpl_nodes.specs.declared.step.StepWord.{StepWord}
+use Rattle.dpl_nodes.specs.declared.step.StepWord.TheVariants as word
 use Rattle.dpl_nodes.specs.Typed.{int_view, truth_view, range_item, index_exprs}
-use Rattle.dpl_nodes.specs.Steps.{declared_as, assigned_to, element_set, array_leaf, listed, names_view}
+use Rattle.dpl_nodes.specs.Steps.{declared_as, assigned_to, element_set, array_leaf, step_word, listed}
 use Rattle.dpl_nodes.proofs.Unread.{cell_read-int, cell_read-truth, item_read-range}
 use Rattle.dpl_apart.specs.Memories.{Changes}
-use Rattle.dpl_turns.specs.Bodies.{OwnNames, IsOwn, is_reduced, may_assign, may_declare, turn_scoping, ArePlain, IsSilent, AreSilent, IsSilentElse}
-use Rattle.dpl_turns.proofs.Bound.{others_of}
+use Rattle.dpl_turns.specs.Bodies.{OwnNames, IsOwn, is_reduced, may_assign, may_declare, turn_scoping, IsSilent, AreSilent, IsSilentElse}
 use Rattle.dpl_turns.proofs.Typed.{int_view-fits, truth_view-fits}
 
 module _ (h : Changes) (own : OwnNames) (t : Index) where
@@ -68,9 +66,6 @@ module _ (h : Changes) (own : OwnNames) (t : Index) where
       → StandsInTurn (declared_as None (truth_leaf slot) (One (truth_view e)))
   truth-declared slot e may apart fit = declared-turns TruthLeaf slot (One (truth_view e)) may apart fit (cell_read-truth e)
 
-  pub range-declared : (slot : ℕ) (r : RangeExpr) → may_declare h own (range_leaf slot) PlainForm ≡ true → fits_item (turn_scoping h own t) None (range_item r) tt → StandsInTurn (declared_as None (range_leaf slot) (range_item r))
-  range-declared slot r may fit = declared-turns RangeLeaf slot (range_item r) may refl fit (item_read-range r)
-
   -- ---- elements of written arrays, at the own index
   element-turns : (k : Kind) (x : ArrayName) (index : IndexExpr) (op : Assign) (at : Place) (e : ExprTree Variable) → is_among x.slot h.written ≡ true → IsOwn own (items_in (index_exprs index))
       → fits_exprs (turn_scoping h own t) (index_exprs index) tt → fits_expr (turn_scoping h own t) None e tt → cell_read e ≡ None → StandsInTurn (element_set (array_leaf k x) index op at e)
@@ -103,27 +98,5 @@ module _ (h : Changes) (own : OwnNames) (t : Index) where
   pub if-stands : (e : ExprTree Variable) (ts : Stmts Variable) (o : Else Variable) → fits_expr (turn_scoping h own t) None e tt → AllStand ts → ElseStands o → StandsInTurn (If nowhere e (listed ts) o)
   if-stands e ts o fit all otherwise = ((fit, all.0, otherwise.0), (all.1, otherwise.1))
 
-  pub while-stands : (at : Place) (e : ExprTree Variable) (ts : Stmts Variable) → fits_expr (turn_scoping h own t) None e tt → AllStand ts → StandsInTurn (Headed WhileWord at e (listed ts))
-  while-stands at e ts fit all = ((fit, all.0, tt), (all.1, tt))
-
-  -- a loop inside a turn, whose variables begin anew with the turn
-  abbrev pub IntBegins : ℕ → Type 0
-  IntBegins slot = (may_declare h own (int_leaf slot) PlainForm ≡ true) × (is_reduced h own (PlainKind IntLeaf) slot ≡ false)
-
-  abbrev pub NamesBegin : Names → Type 0
-  NamesBegin (IntName slot) = IntBegins slot
-  NamesBegin (TupleName slot) = may_declare h own (variable TupleKind slot) PlainForm ≡ true
-  NamesBegin (Each first others) = IntBegins first × AllByRecursion IntBegins others.now
-
-  others-begin : (slots : List ℕ) → AllByRecursion IntBegins slots
-      → fits_each (turn_scoping h own t) (others_of slots) tt × holds_ints (turn_scoping h own t) (others_of slots) × ArePlain (others_of slots)
-  others-begin [] begin = (tt, tt, tt)
-  others-begin (slot ∷ slots) begin = let rest = others-begin slots begin.1 in ((begin.0, rest.0), ((λ i. tt), rest.1), (refl, rest.2))
-
-  pub for-stands : (at : Place) (names : Names) (item : ItemTree Variable) (ts : Stmts Variable) → fits_item (turn_scoping h own t) None item tt → NamesBegin names → AllStand ts
-      → StandsInTurn (Loop ForWord at (names_view names) nowhere item None (listed ts))
-  for-stands at (IntName slot) item ts fit begin all = ((fit, tt, tt, begin, all.0), (refl, all.1, tt))
-  for-stands at (TupleName slot) item ts fit begin all = ((fit, tt, tt, (begin, refl), all.0), (refl, all.1, tt))
-  for-stands at (Each first others) item ts fit begin all =
-      let more = others-begin others.now begin.1 in
-      ((fit, ((λ i. tt), more.1), tt, (begin.0, more.0), all.0), ((refl, more.2), all.1, tt))
+  pub headed-stands : (word : StepWord) (at : Place) (e : ExprTree Variable) (ts : Stmts Variable) → fits_expr (turn_scoping h own t) None e tt → AllStand ts → StandsInTurn (Headed (step_word word) at e (listed ts))
+  headed-stands word.While at e ts fit all = ((fit, all.0, tt), (all.1, tt))

@@ -25,9 +25,9 @@ use Rattle.dpl_values.specs.Reductions.{EachInInts, EachInTruths, EachInRange, E
 use Rattle.dpl_elements.proofs.Dealing.{ends-wider, some-of-whole}
 use Rattle.dpl_steps.proofs.Refusing.{some-of-forall, some-of-array}
 use Rattle.dpl_elements.proofs.Changing.{gives-halts, exec-declared, exec-assigned}
-use Rattle.dpl_steps.proofs.Looping.{in_order-done, in_order-halts, for-domain, in_turn-done, in_turn-halts, for-turns, repeated-fault, repeated-ends, repeated-step, holds-fault, exec-while}
+use Rattle.dpl_steps.proofs.Looping.{in_order-done, in_order-halts, for-domain, in_turn-done, in_turn-halts, for-turns, repeated-fault, repeated-ends, repeated-step, holds-fault, exec-headed}
 use Rattle.dpl_elements.proofs.Branching.{scoped-same, holds-value, if-then}
-use Rattle.dpl_readings.proofs.Views.{for_each_in, forall_in, block_in, if_in, while_in, for_in, forall_line_in}
+use Rattle.dpl_readings.proofs.Views.{for_each_in, forall_in, block_in, if_in, headed_in, for_in, forall_line_in}
 use Rattle.dpl_steps.proofs.+run.Goals as goal
 
 -- DECLARATIONS AND ASSIGNMENTS
@@ -230,17 +230,18 @@ statement::any_statement-returns-then-get-clause-ends g t c done =
     ∙ if-then limits (truth_view c.in-If.condition.now) (steps_in standing c.in-If.body.now) (else_in standing c.in-If.otherwise) w d (c.in_ok-truth_value-in-If.ensures ∙ ap (λ b. Ok (Truth b)) holding))
     (c.run-then-get.ensures.ends done)
 
-pub statement::any_statement-returns-in-While-clause-ends : goal.statement::any_statement-returns-in-While-clause-ends
-statement::any_statement-returns-in-While-clause-ends g t c done =
+pub statement::any_statement-returns-in-Headed-While-default-default-default-clause-ends : goal.statement::any_statement-returns-in-Headed-While-default-default-default-clause-ends
+statement::any_statement-returns-in-Headed-While-default-default-default-clause-ends g t c done =
     let having = g.C.Context.having in
     let standing = g.C.Context.standing in
     let limits = c.args.frame.now.limits in
     let w = c.args.frame.now.memory in
     let d = having c.args.out.now done in
+    let s = c.in-Headed-While-default-default-default in
     ends-alike _ c.while_loop.result c.while_loop.new.frame.memory (having c.while_loop.new.out done) _ _
-    (ap (λ s. exec limits in_memory (step_in standing s) w d) c.in-While.is
-    ∙ ap (λ t. exec limits in_memory t w d) (while_in standing c.in-While.at c.in-While.condition c.in-While.body)
-    ∙ exec-while limits c.in-While.at.now (truth_view c.in-While.condition.now) (steps_in standing c.in-While.body.now) w d)
+    (ap (λ s. exec limits in_memory (step_in standing s) w d) s.is
+    ∙ ap (λ t. exec limits in_memory t w d) (headed_in standing s.word s.at s.condition s.body)
+    ∙ exec-headed limits s.word s.at.now (truth_view s.condition.now) (steps_in standing s.body.now) w d)
     (c.while_loop.ensures.ends done)
 
 pub statement::any_statement-returns-in-For-clause-ends : goal.statement::any_statement-returns-in-For-clause-ends

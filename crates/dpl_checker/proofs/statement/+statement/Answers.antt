@@ -5,7 +5,7 @@ use Rattle.dpl_syntax.proofs.Walks.{drop-end}
 use Rattle.dpl_language.specs.Tree.{NoStmts, WhileWord, OnWord, ForWord, ForallWord}
 use Rattle.dpl_tree.specs.View.{expr_view, item_view}
 use Rattle.dpl_tree.specs.Declarations.{optional}
-use Rattle.dpl_tree.specs.Statements.{variables_view, with_view, stmt_view, body_view, else_view, stmts_of}
+use Rattle.dpl_tree.specs.Statements.{variables_view, with_view, parallel_word, stmt_view, body_view, else_view, stmts_of}
 use Rattle.dpl_tree.proofs.StatementFields.{stmt_view_block, body_view_block}
 use Rattle.dpl_rules.specs.Breaches.{stmt_breaches}
 use Rattle.dpl_rules.specs.Bodies.{forall_breaches}
@@ -15,6 +15,7 @@ use Rattle.dpl_nodes.specs.declared.step.Step.{Block as BlockStep}
 use Rattle.dpl_nodes.specs.Steps.{intent_view, steps_of}
 use Rattle.dpl_typed.specs.Lowered.{leaves_of}
 use Rattle.dpl_typed.proofs.Standing.{if_ok, on_any}
+use Rattle.dpl_checker.specs.Trees.{parallel_tree}
 use Rattle.dpl_checker.specs.Walks.{sight_in, WalksStmt, WalksInner, of_variables}
 use Rattle.dpl_checker.specs.Makes.{MakesStmt, MakesStmts, MakesInner}
 use Rattle.dpl_checker.proofs.Walking.{headed_walks, if_walks, stmts_left, body_left, for_walks, forall_walks, coforall_walks, turns_at, passes_begun, adds_begun, passes_then, passes_step, adds_step, still_ended}
@@ -49,25 +50,25 @@ pub repeat-returns-clause-walks : goal.repeat-returns-clause-walks
 repeat-returns-clause-walks t c =
     let turns = c.args.turns.now in
     let around = c.args.around in
-    headed_walks WhileWord turns.at (expr_view turns.condition.now) (body_view turns.body) around c.args.walk.now c.tested.new.walk c.body.new.walk (c.in-Ok-tested.ensures.walks around) c.in-Ok-body.ensures.walks
+    headed_walks WhileWord turns.at (expr_view turns.value.now) (body_view turns.body) around c.args.walk.now c.tested.new.walk c.body.new.walk (c.in-Ok-tested.ensures.walks around) c.in-Ok-body.ensures.walks
 
 pub repeat-returns-clause-makes : goal.repeat-returns-clause-makes
 repeat-returns-clause-makes t c = λ none plain.
     let turns = c.args.turns.now in
     let ss = c.args.walk.now.scopes in
-    let e = expr_view turns.condition.now in
+    let e = expr_view turns.value.now in
     let body = body_view turns.body in
     let tested = c.in-Ok-tested.ensures.walks c.args.around in
     let before = untold_before c.tested.new.walk c.body.new.walk c.in-Ok-body.ensures.walks none in
-    while-made ss turns.at c.in-Ok.at e body c.in-Ok-body.body c.while_step.result (c.in-Ok.ensures plain.0)
+    while-made ss turns.at c.in-Ok.at e body c.in-Ok-body.body c.headed_step.result (c.in-Ok.ensures plain.0)
     (body_made_at ss c.tested.new.walk.scopes body c.body.new.walk.first c.in-Ok-body.body.now tested.scopes c.in-Ok-body.ensures.makes none plain.2)
-    (c.while_step.ensures (leaves_of ss Once e) (c.in-Ok-tested.ensures.makes before plain.1))
+    (c.headed_step.ensures (leaves_of ss Once e) (c.in-Ok-tested.ensures.makes before plain.1))
 
 pub on_locale-returns : goal.on_locale-returns
 on_locale-returns t c =
     let there = c.args.there.now in
     let around = c.args.around in
-    headed_walks OnWord there.at (expr_view there.locale.now) (body_view there.body) around c.args.walk.now c.sent.new.walk c.body.new.walk (c.in-Ok.ensures around) c.in-Ok-body.ensures.walks
+    headed_walks OnWord there.at (expr_view there.value.now) (body_view there.body) around c.args.walk.now c.sent.new.walk c.body.new.walk (c.in-Ok.ensures around) c.in-Ok-body.ensures.walks
 
 -- ---- loops
 pub for_turns-returns-clause-walks : goal.for_turns-returns-clause-walks
@@ -160,6 +161,14 @@ stmt-returns-in-Ok-stmts-clause-makes t c =
     let made = subst (λ vs. MakesStmts vs ts first steps.now) c.in-Ok.ensures.ok c.in-Ok-stmts.ensures.makes in
     subst (λ s. MakesStmt ss s first (BlockStep steps)) (sym (stmt_view_block block) ∙ ap stmt_view (sym c.in-Block.is))
     (λ none plain. block_stmt-made ss block.now.from block.now.upto ts steps (made none plain))
+
+-- a forall, as a loop by its word
+pub stmt-returns-in-Forall-clause-walks : goal.stmt-returns-in-Forall-clause-walks
+stmt-returns-in-Forall-clause-walks t c =
+    let node = c.in-Parallel.node in
+    subst (λ s. OnOk c.forall_turns.result (WalksStmt c.args.around s c.args.walk.now c.forall_turns.new.walk))
+    (ap (λ w. parallel_tree (parallel_word w) node.now) (sym c.in-Forall.is) ∙ ap stmt_view (sym c.in-Parallel.is))
+    c.forall_turns.ensures.walks
 
 -- ---- statements, one behind the other
 pub stmts-loop-next-init : goal.stmts-loop-next-init

@@ -4,9 +4,9 @@ use Rattle.dpl_standing.specs.Standing.{InTurn}
 use Rattle.dpl_nodes.specs.declared.step.Else.{Else}
 use Rattle.dpl_nodes.specs.Typed.{truth_view}
 use Rattle.dpl_readings.specs.Readings.{step_in, else_in, steps_in}
-use Rattle.dpl_readings.proofs.Views.{block_in, if_in, while_in}
+use Rattle.dpl_readings.proofs.Views.{block_in, if_in, headed_in}
 use Rattle.dpl_turns.specs.Bodies.{IsOwn}
-use Rattle.dpl_turns.proofs.Steps.{int-element, block-stands, else-stands, if-stands, while-stands}
+use Rattle.dpl_turns.proofs.Steps.{int-element, block-stands, else-stands, if-stands, headed-stands}
 use Rattle.dpl_dependence.specs.Turns.{own_in, changes_by, MayStand, ElseMayStand}
 use Rattle.dpl_dependence.proofs.Expressions.{index-same, index-exprs_fit}
 use Rattle.dpl_dependence.proofs.Statements.{steps-next, steps-end}
@@ -62,7 +62,7 @@ may_stand-returns-then-all_may_stand t c h =
 pub may_stand-returns-then-may_truth-2 : goal.may_stand-returns-then-may_truth-2
 may_stand-returns-then-may_truth-2 t c h =
     let rules = c.args.rules.now in
-    let s = c.in-While in
-    subst (MayStand rules) (sym (ap (step_in InTurn) s.is ∙ while_in InTurn s.at s.condition s.body))
-    (λ i. while-stands (changes_by rules) (own_in rules) i s.at.now (truth_view s.condition.now) (steps_in InTurn s.body.now)
-    (c.may_truth-in-While.ensures c.if-may_truth-2.true i) (c.all_may_stand-then-may_truth-2.ensures h i))
+    let s = c.in-Headed in
+    subst (MayStand rules) (sym (ap (step_in InTurn) s.is ∙ headed_in InTurn s.word s.at s.condition s.body))
+    (λ i. headed-stands (changes_by rules) (own_in rules) i s.word s.at.now (truth_view s.condition.now) (steps_in InTurn s.body.now)
+    (c.may_truth-in-Headed.ensures c.if-may_truth-2.true i) (c.all_may_stand-then-may_truth-2.ensures h i))

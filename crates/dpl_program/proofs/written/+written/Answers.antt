@@ -5,7 +5,7 @@ use Rattle.dpl_nodes.specs.declared.step.Step.{Step}
 use Rattle.dpl_standing.specs.Standing.{InTurn}
 use Rattle.dpl_readings.specs.Readings.{step_in, else_in}
 use Rattle.dpl_readings.specs.Written.{written_by, written_else}
-use Rattle.dpl_readings.proofs.Views.{block_in, if_in, while_in, for_in, for_each_in}
+use Rattle.dpl_readings.proofs.Views.{block_in, if_in, headed_in, for_in, for_each_in}
 use Rattle.dpl_program.proofs.written.+written.Goals as goal
 
 abbrev of_step : Step → Option ℕ
@@ -29,9 +29,9 @@ written_by-returns-in-None t c =
     (ap of_step i.is ∙ ap written_by (if_in InTurn i.condition i.body i.otherwise)
     ∙ ap (λ o. option_or o (written_else (else_in InTurn i.otherwise))) (sym c.written-in-If.ensures ∙ c.in-None.is))
 
-pub written_by-returns-in-While : goal.written_by-returns-in-While
-written_by-returns-in-While t c =
-    c.written-in-While.ensures ∙ sym (ap of_step c.in-While.is ∙ ap written_by (while_in InTurn c.in-While.at c.in-While.condition c.in-While.body))
+pub written_by-returns-in-Headed : goal.written_by-returns-in-Headed
+written_by-returns-in-Headed t c =
+    c.written-in-Headed.ensures ∙ sym (ap of_step c.in-Headed.is ∙ ap written_by (headed_in InTurn c.in-Headed.word c.in-Headed.at c.in-Headed.condition c.in-Headed.body))
 
 pub written_by-returns-in-For : goal.written_by-returns-in-For
 written_by-returns-in-For t c =

@@ -18,20 +18,14 @@ decreases-body l = l.room * 8 + 2
 abbrev pub decreases-if_else : goal.decreases-if_else
 decreases-if_else l = l.room * 8 + 3
 
-abbrev pub decreases-while_loop : goal.decreases-while_loop
-decreases-while_loop l = l.room * 8 + 3
-
-abbrev pub decreases-on_locale : goal.decreases-on_locale
-decreases-on_locale l = l.room * 8 + 3
+abbrev pub decreases-headed : goal.decreases-headed
+decreases-headed l = l.room * 8 + 3
 
 abbrev pub decreases-for_loop : goal.decreases-for_loop
 decreases-for_loop l = l.room * 8 + 3
 
-abbrev pub decreases-forall_loop : goal.decreases-forall_loop
-decreases-forall_loop l = l.room * 8 + 3
-
-abbrev pub decreases-coforall_loop : goal.decreases-coforall_loop
-decreases-coforall_loop l = l.room * 8 + 3
+abbrev pub decreases-parallel_loop : goal.decreases-parallel_loop
+decreases-parallel_loop l = l.room * 8 + 3
 
 abbrev pub decreases-plain_statement : goal.decreases-plain_statement
 decreases-plain_statement l = l.room * 8 + 4
