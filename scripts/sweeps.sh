@@ -2,7 +2,7 @@
 # Refuses growths of memory and starts of threads, one after another: a run whose k-th growth is refused ends with M1, or goes on as if nothing had happened (an arena
 # whose chunk is refused asks for a smaller one); one whose k-th start is refused, for whatever cause, ends with M2, or goes on where it is that of a reduction. Both have status 3, and nothing on standard output.
 # k goes from 1 to the first run of which nothing is left to refuse. The programs have loops that workers make.
-# Where the tests of dpl_run_tests are built, as rt ci leaves them, its test a_growth_refused goes through the same: a sum and a fault, by an open gate and by one that refuses all.
+# Where the tests of dpl_run_tests are built, as rt ci leaves them, its test growths::a_growth_refused goes through the same: a sum and a fault, by an open gate and by one that refuses all.
 # usage: scripts/sweeps.sh [EXECUTABLE [TESTS]]. Needs python3 and a C compiler.
 set -eu
 top=$(cd "$(dirname "$0")/.." && pwd)
