@@ -1,7 +1,7 @@
 // A program that is checked once and run by several settings, and programs that the check refuses.
 // What the calls promise is proved; here they are called as any other crate would.
 
-use crate::programs::{four_locales, one_locale};
+use crate::programs::{SUMMED, four_locales, one_locale};
 use bumpalo::Bump;
 use dpl_lexer::lex;
 use dpl_parser::{Arena, parse};
@@ -10,10 +10,6 @@ use std::alloc::Global;
 use std::process::Abort;
 use std::sync::Wait;
 use std::thread::Threads;
-
-// A sum and its array.
-const SUMMED: &str =
-    "const D = {1..8} dmapped new blockDist(boundingBox={1..8}); var A: [D] int; forall i in D do A[i] = i*i; writeln(+ reduce A); writeln(A);";
 
 // What a program writes that is checked once, and then run by one locale and by four.
 fn twice<R: Abort + Threads + Wait + Sync>(rt: &R, alloc: Global, text: &[u8]) -> Vec<u8> {

@@ -2,7 +2,7 @@
 // A run whose gate refuses an entry is refused for that; that nothing is written then is proved.
 
 use crate::entries::{ENTRIES, STRIPS};
-use crate::programs::{bytes_of, four_locales, written};
+use crate::programs::{SUMMED, bytes_of, four_locales, written};
 use crate::roots::{BLOCKS, CYCLES, NAMED};
 use dpl_run::{Config, Gate, Maps, Meeting, Refused};
 use std::alloc::Global;
@@ -258,16 +258,13 @@ fn meeting_nobody(rt: HostRuntime) {
     assert!(rt; said == Err(Refused::Gate));
 }
 
-// A forall over eight indices, by blocks of two on four locales, and a sum over its array.
-pub(crate) const SQUARES: &str =
-    "const D = {1..8} dmapped new blockDist(boundingBox={1..8}); var A: [D] int; forall i in D do A[i] = i*i; writeln(+ reduce A); writeln(A);";
-
+// The squares are a forall over eight indices, by blocks of two on four locales, and a sum over its array.
 // Each of two workers makes two turns of the forall and folds two items of the sum, and they meet at all four.
 #[test]
 fn meeting_in_both(rt: HostRuntime) {
     let config = four_locales(&rt, Maps::AsIs);
     let gate = Meeting::new(4, 100_000_000);
-    let said = written(&rt, rt.alloc(), SQUARES.as_bytes(), &[], &config, &gate);
+    let said = written(&rt, rt.alloc(), SUMMED.as_bytes(), &[], &config, &gate);
     let wanted = bytes_of(&rt, rt.alloc(), "204~1 4 9 16 25 36 49 64~");
     assert!(rt; said == Ok(wanted));
 }
@@ -279,7 +276,7 @@ fn each_enters_for_its_own_half(rt: HostRuntime) {
     let gate = Halves {
         asked: AtomicU64::new(0),
     };
-    let said = written(&rt, rt.alloc(), SQUARES.as_bytes(), &[], &config, &gate);
+    let said = written(&rt, rt.alloc(), SUMMED.as_bytes(), &[], &config, &gate);
     let wanted = bytes_of(&rt, rt.alloc(), "204~1 4 9 16 25 36 49 64~");
     assert!(&rt; said == Ok(wanted));
     assert_eq!(rt; gate.asked.load(Ordering::Relaxed), 16);

@@ -2,7 +2,7 @@
 // is refused: scripts/sweeps.sh refuses one after another. A run that goes on all the same writes what it writes; want of memory goes before
 // a thread, a thread before the gate, and each before a fault.
 
-use crate::gates::SQUARES;
+use crate::programs::SUMMED;
 use dpl_run::{Config, Gate, Maps, OpenGate, Plain, Refused, run_text};
 use std::alloc::Global;
 use std::process::Abort;
@@ -72,7 +72,7 @@ fn refused<R: Abort + Threads + Wait + Sync>(
 // One growth, or one start, is refused at most.
 #[test]
 fn a_growth_refused(rt: HostRuntime) {
-    let squares = refused(&rt, rt.alloc(), SQUARES, b"204\n1 4 9 16 25 36 49 64\n", 4);
+    let squares = refused(&rt, rt.alloc(), SUMMED, b"204\n1 4 9 16 25 36 49 64\n", 4);
     let faults = refused(&rt, rt.alloc(), FAULTS, b"! F2 at 4:13 in turn 3\n\0\0", 3);
     assert!(rt; squares.saturating_add(faults) <= 1);
 }

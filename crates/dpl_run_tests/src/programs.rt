@@ -6,6 +6,10 @@ use std::process::Abort;
 use std::sync::Wait;
 use std::thread::Threads;
 
+/// An array of squares in blocks, its sum and itself.
+pub(crate) const SUMMED: &str =
+    "const D = {1..8} dmapped new blockDist(boundingBox={1..8}); var A: [D] int; forall i in D do A[i] = i*i; writeln(+ reduce A); writeln(A);";
+
 /// The settings of one locale, with a budget of nine turns.
 pub(crate) fn one_locale(rt: &impl Abort) -> Config {
     Config::new(1, 9, 9, [1, 1], [1, 1, 1], Maps::AsIs).expect(rt, "settings")

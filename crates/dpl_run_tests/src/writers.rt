@@ -1,12 +1,9 @@
 // Writers that fail, texts that break off or aren't text, and settings that are none.
 
-use crate::programs::{four_locales, one_locale, written};
+use crate::programs::{SUMMED, four_locales, one_locale, written};
 use dpl_run::{Config, ConfigFault, Maps, OpenGate, Plain, Refused, run_text};
 
 // A sum and its array.
-const SUMMED: &str =
-    "const D = {1..8} dmapped new blockDist(boundingBox={1..8}); var A: [D] int; forall i in D do A[i] = i*i; writeln(+ reduce A); writeln(A);";
-
 // A writer that takes three bytes of a sum and of its array, and then fails, has these.
 #[test]
 fn a_writer_that_fails(rt: HostRuntime) {
