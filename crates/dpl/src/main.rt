@@ -5,16 +5,25 @@
 use dpl_command::{program, read_text, unopened};
 use dpl_run::Plain;
 use dpl_settings::{LineFault, Settings, USAGE, settings, tell_line};
+use dpl_threads::{Anything, start};
 use std::alloc::{AllocError, Global};
 use std::env;
 use std::fs::File;
 use std::io::{ErrorKind, IsTerminal};
 use std::process::ExitCode;
 use std::sync::Wait;
-use std::thread::Threads;
+use std::thread::{self, Threads};
 
+// Does all on a thread of its own, whose stack is mapped before a word is read: so little memory refuses its start, and never ends the run by a
+// signal, whatever stack the process was given for its first thread.
 fn main(rt: HostRuntime) -> ExitCode {
-    ExitCode::from(command_line(&rt, &rt))
+    let status = thread::scope(thread::scope_env(), &rt, |scope| -> u8 {
+        match start(scope, Anything, || command_line(&rt, &rt)) {
+            Ok(handle) => handle.join(&rt),
+            Err(_) => tell_line(&rt, &LineFault::Thread),
+        }
+    });
+    ExitCode::from(status)
 }
 
 // The words of the command line. One that isn't UTF-8 is a mistake. Only what `main` was given starts workers, so that it goes down to the

@@ -5,7 +5,7 @@ use Rattle.clap.specs.declared.error.Error.{Error}
 use Rattle.clap.specs.declared.error.kind.ErrorKind.TheVariants.{OutOfMemory}
 use Rattle.dpl_settings.specs.CommandLine.{budget_of, command_line, found, grid2_of, grid3_of, locales_of, maps_of}
 use Rattle.dpl_settings.specs.declared.fault.LineFault.{LineFault}
-use Rattle.dpl_settings.specs.declared.fault.LineFault.TheVariants.{Line, Value, Memory}
+use Rattle.dpl_settings.specs.declared.fault.LineFault.TheVariants.{Line, Value, Memory, Thread}
 use Rattle.dpl_settings.specs.declared.fault.WrongValue.{WrongValue}
 use Rattle.dpl_settings.specs.declared.fault.WrongValue.TheVariants.{Budget, Locales, Grid2, Grid3, Maps}
 
@@ -25,14 +25,16 @@ first_wrong rows =
     wrong_or Maps (maps_of rows) (λ maps. None)))))
 
 -- clap's error is of a kind for which it refuses these words; a value is refused where clap takes the words, and it is the
--- first that is wrong; want of memory has no cause in the words
+-- first that is wrong; want of memory has no cause in the words; that a thread was not started is never told of words
 abbrev pub IsCause : List Text → LineFault → Type 0
 IsCause words (Line e) = IsAmong (kind_of e) (fault_of command_line words)
 IsCause words (Value v) = (fault_of command_line words ≡ []) × (first_wrong (found words) ≡ Some v)
 IsCause words Memory = ⊤
+IsCause words Thread = ⊥
 
 -- an error of clap's, as a fault of the line: want of memory where it is of that kind, and only there
 abbrev pub IsToldAs : Error → LineFault → Type 0
 IsToldAs error (Line e) = (e ≡ error) × (kind_of e ≢ OutOfMemory)
 IsToldAs error (Value v) = ⊥
 IsToldAs error Memory = kind_of error ≡ OutOfMemory
+IsToldAs error Thread = ⊥

@@ -39,6 +39,9 @@ pub enum LineFault {
     /// Out of memory, which says nothing of the words.
     #[error("out of memory")]
     Memory,
+    /// The thread on whose stack all is done was not started, so that no word was read.
+    #[error("a thread was not started")]
+    Thread,
 }
 
 impl From<AllocError> for LineFault {

@@ -1,5 +1,5 @@
 // Command lines that give no settings: what is told of each, and the status with which the process then ends.
-// Help and the version are asked for, and go to standard output; every other one is a mistake, or want of memory.
+// Help and the version are asked for, and go to standard output; every other one is a mistake, or want of memory or of a thread.
 
 ghost use Rattle.std.specs.Prelude.{Bool};
 ghost use Rattle.dpl_settings.specs.Statuses.{HasLineStatus};
@@ -28,7 +28,7 @@ pub fn line_status(fault: &LineFault, printed: bool) -> u8
             }
         }
         LineFault::Value(_) => USAGE,
-        LineFault::Memory => 3,
+        LineFault::Memory | LineFault::Thread => 3,
     }
 }
 
@@ -37,6 +37,7 @@ fn print_line<R: Print + Eprint>(rt: &R, fault: &LineFault) -> io::Result<()> {
     match fault {
         LineFault::Line(error) => error.print(rt),
         LineFault::Memory => rt.eprint("dpl: M1\n"),
+        LineFault::Thread => rt.eprint("dpl: M2\n"),
         LineFault::Value(_) => rt.eprintln(fault),
     }
 }
