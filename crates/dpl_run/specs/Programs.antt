@@ -1,9 +1,9 @@
 -- Programs that the check took, and what a run of one is.
--- None of their texts has a word of tasks, since those don't run yet.
-use Rattle.std.specs.Prelude.{◌≡◌, ℕ, List}
+use Rattle.std.specs.Prelude.{◌≡◌, ℕ, List, None}
 use Rattle.dpl_history.specs.declared.history.Event.{Event}
 use Rattle.dpl_syntax.specs.declared.token.Token.{Token}
 use Rattle.dpl_syntax.specs.Text.{Lexes}
+use Rattle.dpl_grammar.specs.Classes.{task_words, first_of}
 use Rattle.dpl_spelling.specs.Theorem.{Spells}
 use Rattle.dpl_language.specs.Tree.{ProgramTree}
 use Rattle.dpl_language.specs.Environment.{Limits}
@@ -25,14 +25,23 @@ pub record CheckedProgram : Type 0 where
 abbrev pub AreSpelled : List Token → ProgramTree Text → Type 0
 AreSpelled tokens t = (text : List ℕ) × Lexes text tokens × Spells 64 tokens t
 
+-- tokens without a word of tasks spell the tree: it has no locale, no task and no cell
+abbrev pub IsUntasked : ProgramTree Text → Type 0
+IsUntasked t = (tokens : List Token) × AreSpelled tokens t × (first_of task_words tokens ≡ None)
+
 -- the tree breaks no rule, and each of its foralls is admitted: it writes at its own index, and reads there what it writes
 pub record IsAllowed (t : ProgramTree Text) : Type 0 where
   pub sound : IsSound t
   pub admitted : AreAdmitted (all_foralls top t.stmts)
 
--- WHAT A RUN IS. Whatever histories there are, and on every number of locales, the program comes to this outcome and writes these bytes;
--- and it comes to no others.
+-- By these histories the program comes to this outcome and writes these bytes, and it comes to no others.
+pub record RunsBy (p : CheckedProgram) (limits : Limits) (histories : List (List Event)) (o : Outcome) (said : List ℕ) : Type 0 where
+  pub means : Means p.tree p.sets limits histories (ending o) said
+  pub only : (other : Ending) (says : List ℕ) → Means p.tree p.sets limits histories other says → (other ≡ ending o) × (says ≡ said)
+
+-- WHAT A RUN IS. There are histories by which the program comes to this outcome and these bytes, and to no others; and where its tree has no form
+-- of tasks, it does so by all histories, and on every number of locales.
 pub record Runs (p : CheckedProgram) (limits : Limits) (o : Outcome) (said : List ℕ) : Type 0 where
-  pub means : (locales : ℕ) (histories : List (List Event)) → Means p.tree p.sets (record limits { locales = locales }) histories (ending o) said
-  pub only : (locales : ℕ) (histories : List (List Event)) (other : Ending) (says : List ℕ)
-      → Means p.tree p.sets (record limits { locales = locales }) histories other says → (other ≡ ending o) × (says ≡ said)
+  pub histories : List (List Event)
+  pub runs : RunsBy p limits histories o said
+  pub alike : IsUntasked p.tree → (locales : ℕ) (others : List (List Event)) → RunsBy p (record limits { locales = locales }) others o said

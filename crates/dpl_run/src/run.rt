@@ -123,7 +123,8 @@ pub fn run_checked<R: Threads + Wait + Sync, G: Gate + Sync, W: Out>(
 ) -> Result<Outcome, Refused>
     requires checked { IsChecked checked.now }
     requires unfailed { W.has_failed out.old ≡ false }
-    // The program comes to the outcome and to what is written, and to no others, whatever histories there are and on every number of locales.
+    // The program comes to the outcome and to what is written, and to no others, by some histories; and where its tree has no form of tasks, by all
+    // and on every number of locales.
     ensures written { IfOk result (λ outcome. (said : List ℕ) × Appends (W.contents out.old) (W.contents out.new) said
         × Runs (program_of checked.now) (limits_of config.now) outcome said) }
     ensures unfailed { OnOk result (W.has_failed out.new ≡ false) }
