@@ -11,7 +11,7 @@ use Rattle.dpl_outcome.specs.Settings.{Settings, limits_of}
 use Rattle.dpl_outcome.specs.Writers.{Partly}
 use Rattle.dpl_command.specs.declared.ended.Ended.{Ended}
 use Rattle.dpl_command.specs.declared.ended.Ended.TheVariants.{Ran, Failed, Unread}
-use Rattle.dpl_command.specs.Statuses.{IsUnreadBy, IsUntold, status_of, told_of}
+use Rattle.dpl_command.specs.Statuses.{IsUnreadBy, IsUntold, line_of, status_of, told_of}
 
 -- All of an input is the text, or one byte more than the longest text has.
 abbrev pub IsTextOf : Option (List ℕ) → List ℕ → Type 0
@@ -45,9 +45,9 @@ abbrev pub IsMore : Bool → Ended → List ℕ → Type 0
 IsMore false ended more = more ≡ []
 IsMore true ended more = IsUntold ended → more ≡ []
 
--- why not all of these bytes could be written: memory ran out, and none were; or the writer failed, and took the first of them
+-- why not all of these bytes could be written: memory ran out, and that is told in their place; or the writer failed, and took the first of them
 abbrev pub IsCutBy : List ℕ → Option (List ℕ) → Option (List ℕ) → Bool → Refused → Type 0
-IsCutBy bytes old new failed Memory = Keeps old new
+IsCutBy bytes old new failed Memory = (failed ≡ false → Appends old new (line_of Memory)) × Partly old new (line_of Memory)
 IsCutBy bytes old new failed Thread = ⊥
 IsCutBy bytes old new failed Gate = ⊥
 IsCutBy bytes old new failed Writer = (failed ≡ true) × Partly old new bytes

@@ -27,13 +27,17 @@ status_of (Ran (Rejected r)) told = 2
 status_of (Failed e) told = refused_status e
 status_of Unread told = 4
 
+-- the line that tells why there is no outcome, or no dump
+abbrev pub line_of : Refused → List ℕ
+line_of e = codes "dpl: " ++ refused_text e ++ 10 ∷ []
+
 -- the variables that a program left, where they are asked for, and of a run that is done alone; and why there is no outcome
 abbrev pub told_of : Bool → Ended → List ℕ
 told_of true (Ran (Done left)) = dumped left
 told_of false (Ran (Done left)) = []
 told_of dumps (Ran (Stopped f)) = []
 told_of dumps (Ran (Rejected r)) = []
-told_of dumps (Failed e) = codes "dpl: " ++ refused_text e ++ 10 ∷ []
+told_of dumps (Failed e) = line_of e
 told_of dumps Unread = codes "dpl: cannot read" ++ 10 ∷ []
 
 -- an error of this kind keeps a text from being read: want of memory is told as such, and every other kind as a text that can't be read

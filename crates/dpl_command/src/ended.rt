@@ -1,10 +1,9 @@
 // What becomes of a text, and the status and the line on standard error by which the program tells it.
 // Statuses and lines are those of specs/Statuses.antt.
 
-ghost use Rattle.std.specs.Prelude.{◌≡◌, codes, ◌++◌, ◌∷◌, []};
+ghost use Rattle.std.specs.Prelude.{◌≡◌};
 ghost use Rattle.std.specs.IoError.{error_kind};
-ghost use Rattle.dpl_outcome.specs.Refusals.{refused_text};
-ghost use Rattle.dpl_command.specs.Statuses.{IsUnreadBy, refused_status, status_of};
+ghost use Rattle.dpl_command.specs.Statuses.{IsUnreadBy, line_of, refused_status, status_of};
 
 use dpl_run::{Outcome, Refused};
 use std::io::{self, ErrorKind};
@@ -57,9 +56,9 @@ pub(crate) fn status_of(ended: &Ended, told: &Result<(), Refused>) -> u8
     }
 }
 
-// The line that tells a refused run on standard error.
+// The line that tells a refused run, or a refused dump, on standard error.
 pub(crate) fn refused_line(refused: Refused) -> &'static str
-    ensures { result.now ≡ codes "dpl: " ++ refused_text refused ++ 10 ∷ [] }
+    ensures { result.now ≡ line_of refused }
 {
     match refused {
         Refused::Memory => "dpl: M1\n",

@@ -3,15 +3,30 @@
 ghost use Rattle.std.specs.Prelude.{◌≡◌, false, List, ℕ, [], OnOk, IfErr};
 ghost use Rattle.std.specs.IoError.{error_kind};
 ghost use Rattle.std.specs.Io.KnownBytes.{Appends};
+ghost use Rattle.dpl_says.specs.Dump.{dumped};
 ghost use Rattle.dpl_command.specs.Statuses.{IsUntold, told_of};
 ghost use Rattle.dpl_command.specs.Ending.{EndsUnread, IsCutBy, IsTold};
 
 use crate::ended::{Ended, refused_line, status_of, unread};
 use dpl_explain::{explain_fault, explain_refusal};
-use dpl_run::{Out, Outcome, Refused, dump, write_all};
+use dpl_run::{Left, Out, Outcome, Refused, dump, write_all};
 use dpl_settings::Settings;
 use std::alloc::Global;
 use std::io;
+
+// Writes the variables that a program left; where memory is refused for that, it is told in their place.
+fn tell_left<E: Out>(alloc: Global, left: &Left, errors: &mut E) -> Result<(), Refused>
+    requires { E.has_failed errors.old ≡ false }
+    ensures written { OnOk result (Appends (E.contents errors.old) (E.contents errors.new) (dumped left.now)) }
+    ensures unfailed { OnOk result (E.has_failed errors.new ≡ false) }
+    ensures cut { IfErr result (IsCutBy (dumped left.now) (E.contents errors.old) (E.contents errors.new) (E.has_failed errors.new)) }
+{
+    let told = dump(alloc, left, errors);
+    if let Err(Refused::Memory) = told {
+        let _ = write_all(errors, refused_line(Refused::Memory).as_bytes());
+    }
+    told
+}
 
 // Writes the variables that a program left, where they are asked for; and why there is no outcome, where there is none.
 fn tell<E: Out>(alloc: Global, ended: &Ended, dumps: bool, errors: &mut E) -> Result<(), Refused>
@@ -23,7 +38,7 @@ fn tell<E: Out>(alloc: Global, ended: &Ended, dumps: bool, errors: &mut E) -> Re
     match ended {
         Ended::Ran(Outcome::Done(left)) => {
             if dumps {
-                dump(alloc, left, errors)
+                tell_left(alloc, left, errors)
             } else {
                 Ok(())
             }
