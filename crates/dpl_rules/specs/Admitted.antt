@@ -1,4 +1,4 @@
--- What a forall may do so that its turns give the same in whatever order they are made; it speaks of names alone.
+-- What a forall may do, by the language's rules; it speaks of names alone.
 -- An admitted forall writes outer arrays at its own index alone and reads those only there; it changes outer scalars only
 -- by their intents' operators, and doesn't read these; it changes no outer domain, and holds nothing that waits, prints,
 -- or makes turns or tasks of its own.

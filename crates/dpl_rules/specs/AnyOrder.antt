@@ -1,6 +1,7 @@
--- What the turns of an admitted forall don't depend on: the order in which they are made.
+-- When turns don't depend on the order in which they are made.
 -- A turn faults whichever others were made before it, or after none; and where none faults, every order leaves the same
--- variables. So turns may be dealt out to whoever is to make them.
+-- variables. That is proved of turns in a memory that keep apart (`in_any_order` of dpl_apart), and workers rest on it. Of a
+-- forall that the rules admit no contract says it: rows make such turns in both orders (dpl_worked, `Orders`).
 use Rattle.std.specs.Prelude.{◌≡◌, List, ◌∷◌, ◌++◌, IsPermutation}
 use Rattle.dpl_language.specs.Tree.{VariablesTree, Body}
 use Rattle.dpl_language.specs.Values.{Value, Index}
