@@ -115,6 +115,7 @@ C7 at 2:30   forall i in D do for j in 1..A[1] do A[i] = j;\n\
 C7 at 2:42   forall i in D { for j in 1..2 do A[i] += A[j]; }\n\
 C7 at 2:33   forall (i, j) in E do B[i, j] = B[j, i];\n\
 C7 at 2:25   forall i in D do A[i] = A[x];\n\
+C7 at 2:25   forall i in D do A[i] = A + nope;\n\
 C7 at 2:32   forall i in D do A[i] = A[i] + A[i + 1];\n\
 C7 at 2:52   forall i in D { A[i] = 1; { const i = 2; const x = A[i]; } }\n\
 sound        forall i in D do A[i] = A[i] + A((i)) + C[i + 1];\n\

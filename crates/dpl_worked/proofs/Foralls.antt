@@ -31,6 +31,11 @@ neighbour_read : in_house (codes "forall i in D do A[i] = A[i - 1];") ≡ told 2
 unfolding by_text
 neighbour_read = refl
 
+-- a written array's bare name is told before a name that isn't declared
+written_array_by_its_name : in_house (codes "forall i in D do A[i] = A + nope;") ≡ told 2 25 ReadElsewhere
+unfolding by_text
+written_array_by_its_name = refl
+
 own_element_read : in_house (codes "forall i in D do A[i] = A[i] + A((i)) + C[i + 1];") ≡ sound
 unfolding by_text
 own_element_read = refl
