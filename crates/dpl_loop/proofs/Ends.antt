@@ -1,6 +1,6 @@
 -- Runs that end early, and what would follow them; and one meaning in the place of another that it equals.
 -- Where a gate may refuse is the same for all of a run.
-use Rattle.std.proofs.Common.{◌≡◌, Result, Ok, Err, ap, sym, ◌∙◌}
+use Rattle.std.proofs.Common.{◌≡◌, Result, Ok, Err, ap, sym, subst, ◌∙◌}
 use Rattle.dpl_language.specs.Values.{Index, Fault}
 use Rattle.dpl_language.specs.Outcome.{Deeds, Outcome, Stop, Run, then_do, naming}
 use Rattle.dpl_memory.specs.Memory.{Memory}
@@ -26,6 +26,13 @@ halts-alike may stop.Gate s next done o p e ends = ends
 pub ends-alike : (may : Type 0) (r : Result (Unit {0}) RunStop) (s : Memory) (done : Deeds) (o p : Outcome Memory) → p ≡ o → RunsTo may r s done o → RunsTo may r s done p
 ends-alike may (Ok v) s done o p e ends = e ∙ ends
 ends-alike may (Err h) s done o p e ends = halts-alike may h s s done o p e ends
+
+-- what asks no gate and is named after a turn is no refused entry
+pub named-asked : (t : Index) (h named : RunStop) (s : Memory) (done : Deeds) (o : Outcome Memory) → RunEnds (Err h) s done o → NamesTurn t h named → named ≡ stop.Gate → ⊥
+named-asked t (stop.Fault f) named s done o ends names is = subst (IsFault _) is names
+named-asked t stop.Memory named s done o ends names is = let e : stop.Memory ≡ stop.Gate = sym names ∙ is in absurd cc
+named-asked t stop.Thread named s done o ends names is = let e : stop.Thread ≡ stop.Gate = sym names ∙ is in absurd cc
+named-asked t stop.Gate named s done o ends names is = ends
 
 -- where more may be refused
 pub halts-where : (may more : Type 0) (h : RunStop) (s : Memory) (done : Deeds) (o : Outcome Memory) → (may → more) → RunsTo may (Err h) s done o → RunsTo more (Err h) s done o

@@ -1,7 +1,7 @@
 // Foralls over ranges and domains: what they do is what their turns do one after another, in order. Each turn asks the gate first, and a
 // worker enters for it as the locale that owns its index. Where the gate is open, the turns of a row may be made at once (together.rt).
 
-ghost use Rattle.std.specs.Prelude.{◌≡◌, [], ◌∷◌};
+ghost use Rattle.std.specs.Prelude.{◌≡◌, [], ◌∷◌, Err};
 ghost use Rattle.dpl_sets.specs.Indices.{indices};
 ghost use Rattle.dpl_language.specs.Ranges.{indices_in};
 ghost use Rattle.dpl_language.specs.Outcome.{Deeds, in_order};
@@ -34,6 +34,8 @@ pub(crate) fn entered<A: Arrays, T: Turns, G: Gate>(
 ) -> Result<(), RunStop>
     ensures ends { (done : Deeds) → RunsTo (G.may_refuse gate.now (owner map.now index) place) result frame.new.memory done
         (named_turn (T.turn turns.now frame.old.limits) index frame.old.memory done) }
+    // A turn whose entry is refused isn't made.
+    ensures unmade { result ≡ Err RunStop.Gate → frame.new ≡ frame.old }
     ensures limits { frame.new.limits ≡ frame.old.limits }
 {
     if !enters(gate, map, index, place) {

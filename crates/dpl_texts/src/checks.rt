@@ -49,7 +49,7 @@ fn rows_of(rt: &impl Abort, alloc: Global, first: &str, table: &str) -> usize {
 
 #[test]
 fn rows(rt: HostRuntime) {
-    assert_eq!(rt; rows_of(&rt, rt.alloc(), HOUSE, IN_HOUSE), 652);
+    assert_eq!(rt; rows_of(&rt, rt.alloc(), HOUSE, IN_HOUSE), 654);
     assert_eq!(rt; rows_of(&rt, rt.alloc(), "", ALONE), 44);
 }
 

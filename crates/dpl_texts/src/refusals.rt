@@ -374,6 +374,7 @@ sound        G = G + G;\n\
 sound        F = A < C;\n\
 sound        F = F != b;\n\
 sound        F = !F; A = -A;\n\
+C3 at 2:39   forall i in 1..2 with (+ reduce n) { n[1] += 1; }\n\
 C3 at 2:5    n = + reduce n;\n\
 C3 at 2:5    n = max reduce r;\n\
 C3 at 2:5    n = + reduce D;\n\

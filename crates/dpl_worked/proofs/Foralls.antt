@@ -75,6 +75,11 @@ sum_multiplied : in_house (codes "forall i in D with (+ reduce n) do n *= i;") �
 unfolding by_text
 sum_multiplied = refl
 
+-- by its intent's operator it may be changed, but it takes no bracket
+reduce_variable_at_an_index : in_house (codes "forall i in 1..2 with (+ reduce n) { n[1] += 1; }") ≡ told 2 39 WrongType
+unfolding by_text
+reduce_variable_at_an_index = refl
+
 reduce_variable_read : in_house (codes "forall i in D with (+ reduce n) do n += n;") ≡ told 2 41 OuterChanged
 unfolding by_text
 reduce_variable_read = refl
