@@ -11,7 +11,7 @@ use std::snapshot::Snapshot;
 use std::thread::{Promise, PromisedHandle, Scope, SpawnError};
 
 /// The stack that a thread is started with, in bytes: for the longest texts, whose expressions are read and run by calls within calls.
-const LARGE_STACK: usize = 1 << 28;
+const LARGE_STACK: usize = 1 << 30;
 
 /// The stack where so much isn't given: four times what the deepest nesting needs, and more.
 const SMALL_STACK: usize = 1 << 21;
