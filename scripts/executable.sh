@@ -50,17 +50,32 @@ unpack() {
     fi
 }
 
-# Sets `executable` to the program of the present sources. Where there is none, built/ is unpacked if it is of these sources, and else it is built.
-find_executable() {
+# Ends with status 69 on a machine for which there is no program: it is one of Linux on x86-64.
+check_machine() {
+    case $(uname -s)-$(uname -m) in
+        Linux-x86_64 | Linux-amd64) ;;
+        *)
+            echo "dpl: this is $(uname -s) on $(uname -m), and the program runs on Linux on x86-64 alone" >&2
+            exit 69
+            ;;
+    esac
+}
+
+# Sets `executable` to the program of the present sources: one that stands there, or built/ unpacked if it is of these sources. Fails where there is none.
+find_built() {
     for executable in "$top/out/dpl" "$top/crates/dpl/out/dpl"; do
         if is_current "$executable"; then return; fi
     done
     # A source that changes from here on makes the executable an old one.
     now=$(date +%s.%N)
     sum=$(sum_of_sources)
-    if is_built_of "$sum" && executable=$(folder_for "$sum")/dpl && { is_current "$executable" || unpack "$executable" "$now"; }; then
-        return
-    fi
+    is_built_of "$sum" && executable=$(folder_for "$sum")/dpl && { is_current "$executable" || unpack "$executable" "$now"; }
+}
+
+# Sets `executable` as find_built does; where there is none the program is built.
+find_executable() {
+    check_machine
+    if find_built; then return; fi
     "$top/scripts/build.sh"
     executable=$top/out/dpl
 }
