@@ -13,7 +13,7 @@ WIDTH = 100
 KINDS = ("chapel", "rows", "text", "console", "rust", "antt", "sh")
 FENCE = re.compile(r"^```(.*)$")
 LINK = re.compile(r"\]\(([^)\s]+)\)")
-OPTION = re.compile(r"^((?:--\w+ \S+|\w+=\S+)(?: (?:--\w+ \S+|\w+=\S+))*): ?(.*)$")
+OPTION = re.compile(r"^((?:--dump|--\w+ \S+|\w+=\S*)(?: (?:--\w+ \S+|\w+=\S+))*): ?(.*)$")
 
 
 class Block:
