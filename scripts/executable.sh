@@ -19,10 +19,19 @@ is_current() {
 # Whether built/ has the program of the sources with this sum.
 is_built_of() { [ -e "$top/built/dpl.gz" ] && [ "$(cat "$top/built/sources")" = "$1" ]; }
 
-# Strips an executable into a folder, under the name dpl, by the toolchain's own llvm-strip, so that all machines make the same bytes.
+# Prints an executable with its version made whole: the sum of the sources and the number of the logic stand where it has room for them.
+stamped() {
+    sum=$(sum_of_sources | cut -c 1-16)
+    logic=$(rt version | sed 's/.*logic \([0-9a-f]\{16\}\).*/\1/')
+    LC_ALL=C sed "s/sources 0\{16\}, logic 0\{16\}/sources $sum, logic $logic/" "$1"
+}
+
+# Strips an executable into a folder, under the name dpl, by the toolchain's own llvm-strip, so that all machines make the same bytes, and stamps it.
 strip_to() {
     ln -s "$(dirname "$(rt doc)")/toolchain/bin/clang" "$1/llvm-strip"
-    "$1/llvm-strip" -o "$1/dpl" "$2"
+    "$1/llvm-strip" -o "$1/bare" "$2"
+    stamped "$1/bare" > "$1/dpl"
+    chmod 755 "$1/dpl"
 }
 
 # The folder to unpack into: out/, or where the repository can't be written one for this sum below a temporary folder of the user's own.
