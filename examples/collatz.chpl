@@ -1,4 +1,6 @@
 // How many steps each number takes to 1, where an even number is halved and an odd one tripled, plus one.
+// Shows while and if, with variables that a turn of a plain loop declares.
+// Try last=30.
 config const last = 9;
 var longest = 0;
 for start in 1..last {

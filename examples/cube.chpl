@@ -1,5 +1,6 @@
 // A cube of points: how many steps each is from the middle, and how many points are so far away.
-// Three dimensions: a plane is printed as lines, and between planes stands an empty line.
+// Shows three dimensions: a plane is printed as lines, and between planes stands an empty line.
+// Try n=2.
 config const n = 1;
 const cube = {-n..n, -n..n, -n..n};
 var steps: [cube] int;

@@ -1,4 +1,6 @@
-// Domains are sets of points: a square of the plane, a disc in it, its frame, a quarter of it, and every second point.
+// Sets of points: a square of the plane, a disc in it, its frame, a quarter of it, and every second point.
+// Shows domains as values: loops over them, slices, what is expanded, and members that are asked for.
+// Try r=6.
 config const r = 4;
 const square = {-r..r, -r..r};
 

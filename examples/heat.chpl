@@ -1,5 +1,6 @@
 // Heat on a plate that is dealt out by blocks: its left edge is kept hot, and each inner point takes the mean of its neighbours.
-// Two plates take turns, so that no forall reads what it writes; how many locales there are changes nothing of what is printed.
+// Shows two plates that take turns, so that no forall reads what it writes; how many locales there are changes nothing of what is printed.
+// Try n=3, or --locales 4 --grid2 2x2.
 use BlockDist;
 
 config const n = 6;

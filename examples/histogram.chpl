@@ -1,4 +1,6 @@
 // How often each digit comes among numbers that look thrown: a column for each, as high as its count.
+// Shows counting by sums over a whole array, one digit after another.
+// Try n=100.
 config const n = 60;
 const places = {1..n};
 const digits = {0..9};

@@ -1,4 +1,6 @@
 // Life on a board without an edge's outside: a glider, which moves by one point down and right in four generations.
+// Shows arrays of truth values, and a border around the board that stays empty.
+// Try turns=8.
 config const turns = 4;
 const board = {1..8, 1..8};
 const around = {0..9, 0..9};

@@ -1,4 +1,6 @@
 // The product of two matrices: each element is the sum of a row times a column, as arrays over one line.
+// Shows `+ reduce` of an expression over whole arrays.
+// Try n=5.
 config const n = 3;
 const line = {1..n};
 const square = {1..n, 1..n};

@@ -1,4 +1,6 @@
 // Heat on a plate, in whole numbers: its upper edge is kept hot, and each inner point takes the mean of its neighbours.
+// Shows a stencil over the inside of a plane.
+// Try n=6.
 config const n = 4;
 config const steps = 20;
 const plate = {0..n + 1, 0..n + 1};

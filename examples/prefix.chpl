@@ -1,5 +1,6 @@
 // Sums of all beginnings of a list, by doubling: in each step a number takes along the one that stands so far before it.
-// The list is over a domain variable, which grows; the elements that were there stay.
+// Shows a domain variable, which grows; the elements that were there stay.
+// Try n=16.
 config const n = 8;
 var places = {1..1};
 var sum: [places] int = 1;

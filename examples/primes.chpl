@@ -1,4 +1,6 @@
-// The primes up to n. The odd divisors of a number are tried together, and its reduce variable tells whether none divides it.
+// The primes up to n: the odd divisors of a number are tried together.
+// Shows the reduce intent `&&`, whose variable tells whether none divides the number.
+// Try n=100.
 config const n = 50;
 var count = 0;
 for p in 2..n {

@@ -1,4 +1,6 @@
-// The product of two matrices, and the powers of one: the numbers of Fibonacci stand in those of {1 1, 1 0}.
+// The powers of a matrix, by products: the numbers of Fibonacci stand in those of {1 1, 1 0}.
+// Shows products of matrices by a plain loop inside a forall.
+// Try last=20.
 config const last = 8;
 const square = {1..2, 1..2};
 var step: [square] int = 1;

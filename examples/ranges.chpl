@@ -1,4 +1,6 @@
-// Ranges are values: they have members in an order, and are cut by slices.
+// Ranges: down by four, cut by a slice, and what they know of themselves.
+// Shows ranges as values, which have members in an order.
+// Try other strides in the text.
 const down = 1..20 by -4;
 for i in down do write(i, " ");
 writeln();

@@ -1,4 +1,6 @@
 // The sieve: of the numbers up to n each that is left is a prime, and its multiples are struck out.
+// Shows an array of truth values, and a forall by a stride that is a variable.
+// Try n=100.
 config const n = 30;
 var left: [2..n] bool = true;
 

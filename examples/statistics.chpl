@@ -1,4 +1,6 @@
 // What can be said of a list of numbers as a whole: least and greatest, where they stand, mean, and what holds of all or of one.
+// Shows all kinds of reductions.
+// Try n=20.
 config const n = 12;
 const places = {1..n};
 var number: [places] int;

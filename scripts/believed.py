@@ -144,7 +144,7 @@ def main(words):
     for file, lines in counts.items():
         crates.setdefault(file.partition("/")[0], []).append((lines, file.partition("/")[2]))
     print("| Crate | Lines | Files |\n|---|---|---|")
-    for crate, of in sorted(crates.items(), key=lambda it: -sum(lines for lines, _ in it[1])):
+    for crate, of in sorted(crates.items(), key=lambda it: (-sum(lines for lines, _ in it[1]), it[0])):
         print(f"| `{crate}` | {sum(lines for lines, _ in of)} | {', '.join(f'{name} {lines}' for lines, name in sorted(of, reverse=True))} |")
     total = sum(counts.values())
     print(f"| all | {total} | |")

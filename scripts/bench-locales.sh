@@ -2,6 +2,7 @@
 # Times foralls on one locale, and on four by block, by cyclic and by block-cyclic maps, all in one run: a stencil over a plane, a mean that is copied back, fills of arrays, sums by a reduce
 # intent and by a reduction, and many small loops. Each program is run with and without its loops' repetitions, so that what is told is the time of the loops alone.
 # Blocks that go round are slow: their column is of one round with one repetition, and takes a minute. Last come the fills in C, by one thread and by four.
+# Prints a table in Markdown, which scripts/put-table.py puts into docs/BENCH.md, the fills in C among its rows.
 # usage: scripts/bench-locales.sh [ROUNDS [EXECUTABLE]]. Needs python3 and a C compiler.
 set -eu
 top=$(cd "$(dirname "$0")/.." && pwd)
@@ -70,4 +71,4 @@ for name, head, body, times, tail in PROGRAMS:
     each = [(best[key, "whole"] - best[key, "bare"]) / (1 if goes_round else times) for key, _, goes_round in SETTINGS]
     print("| %s | " % name + " | ".join("%.3f" % (s * 1000) for s in each) + " |" + "".join(" %.2f |" % (s / each[0]) for s in each[1:]))
 PYTHON
-"$work/fills"
+"$work/fills" | awk -F ' *[|] *' '/^[|]/ { printf "| %s, by four threads | %.3f | %.3f | | | %s | | |\n", $2, $3 * 1000, $4 * 1000, $5 }'

@@ -2,8 +2,9 @@
 # Times dpl on a forall of ten million turns, on Collatz sequences up to a number, on the programs of benches/programs (a sieve, stencils over a
 # line and a plane, sums over arrays, an assignment to a whole array, bodies of several statements, and the print of an array), on 50,000
 # statements and on a mebibyte of spaces, each beside lua5.4, luajit, python3, numpy and C doing the same where they have it, all in one run;
-# python3, which is slow, in the first round alone. At the end stands how much memory the stencil over a plane takes.
-# usage: scripts/bench-programs.sh [ROUNDS [LAST]]. Needs rt, python3 and cc, and beside them lua5.4, luajit, and numpy for /usr/bin/python3 (a column is 0
+# python3, which is slow, in the first round alone. Prints a table in Markdown, which scripts/put-table.py puts into docs/BENCH.md, and behind it how much
+# memory the stencil over a plane takes.
+# usage: scripts/bench-programs.sh [ROUNDS [LAST]]. Needs rt, python3 and cc, and beside them lua5.4, luajit, and numpy for /usr/bin/python3 (a cell is empty
 # without it); LAST, 1000000 without it, is where Collatz ends.
 set -eu
 
@@ -110,16 +111,30 @@ beside() {
 for round in $(seq "$rounds"); do
     for program in turns collatz sieve line plane plate jacobi sums promoted assigned several printed statements; do beside "$program" "$round"; done
     echo "spaces $(seconds spaces.chpl "$dpl") 0 0 0 0 0"
-done | awk '
+done | awk -v last="$last" '
+    BEGIN {
+        label["turns"] = "`s += i * i` for 10,000,000 turns"
+        label["collatz"] = "Collatz to " last
+        label["sums"] = "`+ reduce A`"
+        label["promoted"] = "`+ reduce (A * 2 + 1)`"
+        label["assigned"] = "`B = A * 2 + 1`"
+        label["several"] = "several statements, two arrays and a sum"
+        label["printed"] = "`writeln(A)` of 1,000,000 ints"
+        label["statements"] = "50,000 statements `s = s + 1;`"
+        label["spaces"] = "a text of 1 MiB of spaces"
+    }
     !($1 in order) { order[$1] = ++rows; name[rows] = $1; for (k = 2; k <= 7; k++) best[$1, k] = $k }
     { for (k = 2; k <= 7; k++) if ($k < best[$1, k]) best[$1, k] = $k }
     function ratio(a, b) { return b > 0 ? sprintf("%.2f", a / b) : "" }
+    function seconds(a) { return a > 0 ? sprintf("%.3f", a) : "" }
     END {
-        printf "%-12s %8s %8s %8s %8s %8s %8s %9s %9s %9s %9s\n", "seconds", "dpl", "lua5.4", "luajit", "python3", "numpy", "C", "/ lua5.4", "/ luajit", "/ numpy", "/ C"
+        print "| seconds | dpl | lua5.4 | luajit | python3 | numpy | C | / lua5.4 | / luajit | / numpy | / C |"
+        print "|---|---|---|---|---|---|---|---|---|---|---|"
         for (r = 1; r <= rows; r++) {
             p = name[r]
-            printf "%-12s %8.3f %8.3f %8.3f %8.3f %8.3f %8.3f %9s %9s %9s %9s\n", p, best[p, 2], best[p, 3], best[p, 4], best[p, 5], best[p, 6], best[p, 7], \
-                ratio(best[p, 2], best[p, 3]), ratio(best[p, 2], best[p, 4]), ratio(best[p, 2], best[p, 6]), ratio(best[p, 2], best[p, 7])
+            line = "| " (p in label ? label[p] : p)
+            for (k = 2; k <= 7; k++) line = line " | " seconds(best[p, k])
+            print line " | " ratio(best[p, 2], best[p, 3]) " | " ratio(best[p, 2], best[p, 4]) " | " ratio(best[p, 2], best[p, 6]) " | " ratio(best[p, 2], best[p, 7]) " |"
         }
     }'
 
@@ -132,4 +147,4 @@ while [ -r "/proc/$wait_for/status" ]; do
     [ "${now:-0}" -gt "$most" ] && most=$now
     sleep 0.01
 done
-echo "plane: $most KiB, of which its arrays take $((2 * 1002 * 1002 * 8 / 1024))"
+printf '\nThe stencil over a plane has %d KiB at the most, of which its arrays take %d.\n' "$most" $((2 * 1002 * 1002 * 8 / 1024))

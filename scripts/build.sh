@@ -73,6 +73,6 @@ if [ "$status" != 0 ]; then
     exit 70
 fi
 part=$(mktemp "$top/out/dpl.XXXXXX")
-cp "$top/crates/dpl/out/rlib/dpl" "$part"
+stamped "$top/crates/dpl/out/rlib/dpl" > "$part"
 place "$part" "$top/out/dpl" "$began"
 printf '%sbuilding dpl: %d of %d crates, %d s\n' "$clears" "$count" "$count" $(($(date +%s) - ${began%.*})) >&2

@@ -1,5 +1,5 @@
 #!/bin/sh
-# Holds built/ to the sources: its sum is theirs, and it unpacks to the executable given, stripped, byte for byte.
+# Holds built/ to the sources: its sum is theirs, and it unpacks to the executable given, stripped and stamped, byte for byte.
 # usage: scripts/compare-built.sh [EXECUTABLE]. With none it takes crates/dpl/out/dpl; where that is missing or older than the sources, it says so
 # and compares the sum alone. It is silent where all is the same. Else it names what differs and how to mend it, with status 1.
 set -eu

@@ -19,10 +19,19 @@ is_current() {
 # Whether built/ has the program of the sources with this sum.
 is_built_of() { [ -e "$top/built/dpl.gz" ] && [ "$(cat "$top/built/sources")" = "$1" ]; }
 
-# Strips an executable into a folder, under the name dpl, by the toolchain's own llvm-strip, so that all machines make the same bytes.
+# Prints an executable with its version made whole: the sum of the sources and the number of the logic stand where it has room for them.
+stamped() {
+    sum=$(sum_of_sources | cut -c 1-16)
+    logic=$(rt version | sed 's/.*logic \([0-9a-f]\{16\}\).*/\1/')
+    LC_ALL=C sed "s/sources 0\{16\}, logic 0\{16\}/sources $sum, logic $logic/" "$1"
+}
+
+# Strips an executable into a folder, under the name dpl, by the toolchain's own llvm-strip, so that all machines make the same bytes, and stamps it.
 strip_to() {
     ln -s "$(dirname "$(rt doc)")/toolchain/bin/clang" "$1/llvm-strip"
-    "$1/llvm-strip" -o "$1/dpl" "$2"
+    "$1/llvm-strip" -o "$1/bare" "$2"
+    stamped "$1/bare" > "$1/dpl"
+    chmod 755 "$1/dpl"
 }
 
 # The folder to unpack into: out/, or where the repository can't be written one for this sum below a temporary folder of the user's own.
@@ -50,17 +59,32 @@ unpack() {
     fi
 }
 
-# Sets `executable` to the program of the present sources. Where there is none, built/ is unpacked if it is of these sources, and else it is built.
-find_executable() {
+# Ends with status 69 on a machine for which there is no program: it is one of Linux on x86-64.
+check_machine() {
+    case $(uname -s)-$(uname -m) in
+        Linux-x86_64 | Linux-amd64) ;;
+        *)
+            echo "dpl: this is $(uname -s) on $(uname -m), and the program runs on Linux on x86-64 alone" >&2
+            exit 69
+            ;;
+    esac
+}
+
+# Sets `executable` to the program of the present sources: one that stands there, or built/ unpacked if it is of these sources. Fails where there is none.
+find_built() {
     for executable in "$top/out/dpl" "$top/crates/dpl/out/dpl"; do
         if is_current "$executable"; then return; fi
     done
     # A source that changes from here on makes the executable an old one.
     now=$(date +%s.%N)
     sum=$(sum_of_sources)
-    if is_built_of "$sum" && executable=$(folder_for "$sum")/dpl && { is_current "$executable" || unpack "$executable" "$now"; }; then
-        return
-    fi
+    is_built_of "$sum" && executable=$(folder_for "$sum")/dpl && { is_current "$executable" || unpack "$executable" "$now"; }
+}
+
+# Sets `executable` as find_built does; where there is none the program is built.
+find_executable() {
+    check_machine
+    if find_built; then return; fi
     "$top/scripts/build.sh"
     executable=$top/out/dpl
 }

@@ -1,6 +1,6 @@
 #!/usr/bin/env python3
 """Runs .ci/run and prints as a table what each crate took: seconds of a processor for its proof, its tests and its edits, read off /proc.
-usage: scripts/gate-times.sh [--over LOG]"""
+scripts/put-table.py puts it into docs/GATE.md. usage: scripts/gate-times.sh [--over LOG]"""
 import os
 import resource
 import subprocess
@@ -99,17 +99,21 @@ def longest_chain(uses, sums):
 
 
 def table(sums, all_seconds, wall):
+    """Prints the crates that took a hundredth of all, the dearest first, in three columns, and what the whole and the longest chain took."""
     uses = libraries()
     of = lambda name: [sums.get((name, kind), 0) for kind in KINDS]
-    row = lambda name, cells: print(f"| {name} | " + " | ".join(f"{it:.0f}" if it else "" for it in [*cells, sum(cells)]) + " |")
-    print("| Crate | Proof | Tests | Edits | All |\n|---|---|---|---|---|")
-    for name in sorted(uses, key=lambda it: -sum(of(it))):
-        row(f"`{name}`", of(name))
-    row("All crates", [sum(it) for it in zip(*map(of, uses))])
+    cells = lambda name: f"| `{name}` | " + " | ".join(f"{it:.0f}" if it else "" for it in of(name)) + " "
+    names = sorted((it for it in uses if sum(of(it)) * 100 >= sum(sums.values())), key=lambda it: -sum(of(it)))
+    height = -(-len(names) // 3)
+    print("| Crate | Proof | Tests | Edits " * 3 + "|\n" + "|---" * 12 + "|")
+    for row in range(height):
+        print("".join(map(cells, names[row::height])) + "| | | | " * (3 - len(names[row::height])) + "|")
+    proof, tests, edits = [sum(it) for it in zip(*map(of, uses))]
+    rest = sum(sums.values()) - sum(sum(of(it)) for it in names)
+    print(f"\nThe other {len(uses) - len(names)} crates took {rest:.0f} together. All took {all_seconds:.0f} s of a processor, of which {proof:.0f} for proofs, {tests:.0f} for tests and {edits:.0f} for edits, in {wall / 60:.0f} minutes")
+    print(f"on {len(os.sched_getaffinity(0))} processors.")
     seconds, names = longest_chain(uses, sums)
-    print(f"\nIn all {all_seconds:.0f} s of a processor, in {wall / 60:.1f} minutes on {len(os.sched_getaffinity(0))} processors. What the table lacks of that")
-    print("are `rt ci` itself, the programs and tests that it runs, and the last half second of each process.")
-    print(f"The longest chain takes {seconds / 60:.1f} minutes: " + ", ".join(f"`{it}` {of(it)[0]:.0f}" for it in names) + ".")
+    print(f"The longest chain takes {seconds / 60:.0f} of these minutes: " + ", ".join(f"`{it}`" for it in names) + ".")
 
 
 def main(words):

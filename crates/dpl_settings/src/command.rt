@@ -11,22 +11,29 @@ use clap::error::ErrorKind;
 use clap::{Arg, ArgAction, ArgMatches, Command, Error};
 use std::alloc::{AllocError, Global};
 
-// The program's version.
-const VERSION: &str = "0.1.0";
+// The program's version. The zeros keep the room for the sum of the sources and for the number of the logic that proved them:
+// scripts/executable.sh puts these into the executable of built/.
+const VERSION: &str = "0.1.0 (sources 0000000000000000, logic 0000000000000000)";
 
 const ABOUT: &str = "Runs a program of a profile of Chapel.";
 
-const STATUSES: &str = "\
+const NOTES: &str = "\
+Locales, grids and maps say where work is done, and change nothing of what is written. One thread
+makes a forall of fewer than 30000 turns, one whose body declares a variable or has a loop with a
+variable, one that reduces by &, | or ^, and one over a plain range that writes no array. A text
+with coforall, on, sync, Locales, numLocales or here is refused (P1) at the first of these words.
+
 Statuses:
   0  the program ran to its end
   1  a fault stopped it
-  2  the text is no program, or a set doesn't fit it
-  3  out of memory, or a worker was not started; nothing was written
+  2  the text isn't a program, or a NAME=VALUE doesn't fit it
+  3  out of memory, or a worker was not started; nothing was written, but where memory refused the dump
   4  the text can't be read, or the output can't be written
   5  the command line is refused
+  Above 128 a signal ended it: 130 is Ctrl-C, 141 a closed pipe, and any other one is a bug.
 
 Example:
-  dpl squares.chpl --budget 1000";
+  dpl squares.chpl n=100 --locales 4";
 
 // An option with one value, `--NAME VALUE`.
 fn option<'a>(alloc: Global, name: &'a str, value: &'a str, help: &'a str) -> Arg<'a>
@@ -49,16 +56,16 @@ fn command<'a>(alloc: Global) -> Result<Command<'a>, AllocError>
     let set = Arg::new(alloc, "set")
         .value_name("NAME=VALUE")
         .action(ArgAction::Append)
-        .help("The value of a config const of the program, an int, true or false");
+        .help("The value of a config const of the program: an int, true or false");
     let turns = "How many turns a loop may have, from 1 to 4294967296";
     let budget = option(alloc, "budget", "B", turns).default_value("16777216");
-    let seats = "How many locales there are, each a worker thread of foralls, from 1 to 64";
+    let seats = "How many locales there are, from 1 to 64: worker threads, where that serves";
     let locales = option(alloc, "locales", "N", seats).default_value("1");
     let plane = "How the locales are laid out for domains of rank 2 [default: Nx1]";
     let grid2 = option(alloc, "grid2", "RxC", plane);
     let space = "The same for rank 3 [default: Nx1x1]";
     let grid3 = option(alloc, "grid3", "PxRxC", space);
-    let roots = "Which map each root gets: asis, that of the text, or block or cyclic in its place";
+    let roots = "How domains are cut: asis, as the text says, or block or cyclic in its place";
     let maps = option(alloc, "maps", "MAPS", roots).default_value("asis");
     let dump = Arg::new(alloc, "dump")
         .long("dump")
@@ -67,7 +74,7 @@ fn command<'a>(alloc: Global) -> Result<Command<'a>, AllocError>
     Command::new(alloc, "dpl")
         .version(VERSION)
         .about(ABOUT)
-        .after_help(STATUSES)
+        .after_help(NOTES)
         .arg(file)?
         .arg(set)?
         .arg(budget)?

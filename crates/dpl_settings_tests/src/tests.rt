@@ -27,7 +27,7 @@ const TOLD: &str = "\
 5 error: the argument '--maps <MAPS>' cannot be used multiple times|--maps=asis|--maps=asis
 0 Runs a program of a profile of Chapel.|--help
 0 Runs a program of a profile of Chapel.|-h|p
-0 dpl 0.1.0|--version";
+0 dpl 0.1.0 (sources 0000000000000000, logic 0000000000000000)|--version";
 
 // Values that are wrong, by the option that is told; of several it is the first one in the order of the budget, the locales, the
 // grids and the maps.
@@ -151,28 +151,34 @@ Usage: dpl [OPTIONS] [FILE] [NAME=VALUE]...
 
 Arguments:
   [FILE]           The program's text; standard input without it, or where it is -
-  [NAME=VALUE]...  The value of a config const of the program, an int, true or false
+  [NAME=VALUE]...  The value of a config const of the program: an int, true or false
 
 Options:
       --budget <B>     How many turns a loop may have, from 1 to 4294967296 [default: 16777216]
-      --locales <N>    How many locales there are, each a worker thread of foralls, from 1 to 64 [default: 1]
+      --locales <N>    How many locales there are, from 1 to 64: worker threads, where that serves [default: 1]
       --grid2 <RxC>    How the locales are laid out for domains of rank 2 [default: Nx1]
       --grid3 <PxRxC>  The same for rank 3 [default: Nx1x1]
-      --maps <MAPS>    Which map each root gets: asis, that of the text, or block or cyclic in its place [default: asis]
+      --maps <MAPS>    How domains are cut: asis, as the text says, or block or cyclic in its place [default: asis]
       --dump           Writes the variables that the program leaves to standard error [default: off]
   -h, --help           Print help
   -V, --version        Print version
 
+Locales, grids and maps say where work is done, and change nothing of what is written. One thread
+makes a forall of fewer than 30000 turns, one whose body declares a variable or has a loop with a
+variable, one that reduces by &, | or ^, and one over a plain range that writes no array. A text
+with coforall, on, sync, Locales, numLocales or here is refused (P1) at the first of these words.
+
 Statuses:
   0  the program ran to its end
   1  a fault stopped it
-  2  the text is no program, or a set doesn't fit it
-  3  out of memory, or a worker was not started; nothing was written
+  2  the text isn't a program, or a NAME=VALUE doesn't fit it
+  3  out of memory, or a worker was not started; nothing was written, but where memory refused the dump
   4  the text can't be read, or the output can't be written
   5  the command line is refused
+  Above 128 a signal ended it: 130 is Ctrl-C, 141 a closed pipe, and any other one is a bug.
 
 Example:
-  dpl squares.chpl --budget 1000
+  dpl squares.chpl n=100 --locales 4
 ";
 
 // The help, whole, and the statuses that no row has: of what can't be printed, and of want of memory.

@@ -1,0 +1,65 @@
+// An array in pieces: it is cut by a map, each piece is taken out and filled by itself, as a worker would, and all are put back.
+// Whoever has a piece owns it; the array that comes back is the union of what was put.
+#![tactic(auto)]
+
+use dpl_array::{DArray, Pieces};
+use dpl_domain::Domain;
+use dpl_map::{Grid, Map};
+use dpl_range::Range;
+use std::alloc::Global;
+use std::io;
+
+fn main(rt: HostRuntime) -> io::Result<()> {
+    let line = Range::new(1, 8, 1).expect(&rt, "bounds within 2^60");
+    let domain = Domain::new(&[line]).expect(&rt, "one to three ranges");
+    let grid = Grid::new(&[3]).expect(&rt, "1 to 64 locales");
+    let map = Map::block(&domain, grid).expect(&rt, "a box with an index");
+    let array = DArray::new(rt.alloc(), domain, map, 0).expect(&rt, "memory for 8 elements");
+
+    let mut pieces = array.take_pieces();
+    for locale in 0..map.locales() {
+        fill(rt.alloc(), &mut pieces, locale);
+    }
+    if !pieces.is_whole() {
+        return println!(&rt; "a piece is missing");
+    }
+    print_elements(&rt, &pieces.put_back())
+}
+
+// Takes the piece of a locale, puts the square of each of its indices and the locale's number into it, and puts it back.
+fn fill(alloc: Global, pieces: &mut Pieces<i64>, locale: u32) {
+    let Ok(parts) = pieces.map().part(alloc, &pieces.domain(), locale) else {
+        return;
+    };
+    let Some(mut piece) = pieces.take(locale) else {
+        return;
+    };
+    for part in &parts {
+        let mut indices = part.cursor();
+        for _ in 0..part.size() {
+            let Some(index) = indices.next() else {
+                break;
+            };
+            let (_, _, i) = index.numbers();
+            let _ = piece.set(
+                index,
+                i.wrapping_mul(i)
+                    .wrapping_mul(10)
+                    .wrapping_add(locale as i64),
+            );
+        }
+    }
+    let _ = pieces.put(piece);
+}
+
+// The elements, in the order of the domain.
+fn print_elements<R: Print>(rt: &R, array: &DArray<i64>) -> io::Result<()> {
+    let mut elements = array.walk();
+    for _ in 0..array.domain().size() {
+        let Some((index, value)) = elements.next() else {
+            break;
+        };
+        println!(rt; "{index}: {value}")?;
+    }
+    Ok(())
+}
