@@ -16,9 +16,6 @@ trap 'rm -rf "$room"' EXIT
 # `open` N times, `middle`, and `close` N times.
 nest() { awk -v open="$2" -v middle="$3" -v close_="$4" -v n="$1" 'BEGIN { for (i = 0; i < n; i++) printf "%s", open; printf "%s", middle; for (i = 0; i < n; i++) printf "%s", close_ }'; }
 
-# `first`, and `link` N times behind it.
-chain() { nest "$1" "" "$2" "$3"; }
-
 # A text is a line of the program's arguments, its program, and what it writes: NAME ARGUMENTS PROGRAM OUTPUT.
 text() {
     printf '%s' "$2" > "$room/$1.args"
@@ -33,12 +30,12 @@ texts() {
     text indices '' "var A: [1..9] int = 1; writeln($(nest 62 'A[' 1 ']'));" 1
     text operands '' "var s = 0; for i in 1..3 do s += $(nest 62 'i+(' i ')'); writeln(s);" 378
     text conditions '' "var x = true; writeln($(nest 62 'x==(' x ')'));" true
-    text blocks '' "$(nest 64 '{' 'writeln(1);' '}')" 1
+    text blocks '' "$(nest 63 '{' 'writeln(1);' '}')" 1
     text loops '' "var s = 0; $(nest 63 'for i in 1..1 do ' 's += 1;' '') writeln(s);" 1
     text workers '--locales 4' "$array forall i in D do A[i] = $(nest 61 '{1..' i '}.size'); writeln(A[7]);" 7
     text turns '--locales 4' "$array forall i in D do $(nest 62 'if i > 0 then ' 'A[i] = i;' '') writeln(A[7]);" 7
-    text sum '' "var s = 0; for i in 1..2 do s += i$(chain 100000 '' '+i'); writeln(s);" 300003
-    text sums '--locales 4' "$array forall i in D do A[i] = i$(chain 2000 '' '+i'); writeln(A[7]);" 14007
+    text sum '' "var s = 0; for i in 1..200 do s += i$(nest 100000 '+i' '' ''); writeln(s);" 2010020100
+    text sums '--locales 4' "$array forall i in D do A[i] = i$(nest 2000 '+i' '' ''); writeln(A[7]);" 14007
 }
 
 # Runs a text by the limits that are set: `right`, `refused`, or what else became of it.
@@ -86,11 +83,11 @@ for chpl in "$room"/*.chpl; do
     for stack in 64 256 1024 8192; do look "$name" -s "$stack" "$(by "$name" -s "$stack")"; done
     space=$least
     answer=
-    while [ "$answer" != right ] && [ "$space" -lt 4000000 ]; do
+    while [ "$answer" != right ] && [ "$space" -lt 2000000 ]; do
         answer=$(by "$name" -v "$space")
         look "$name" -v "$space" "$answer"
         # Behind the windows in which little memory is short the steps grow with the space.
-        space=$((space + step + (space - least) / 64))
+        space=$((space + step + (space - least) / 16))
     done
 done
 [ "$bad" = 0 ] || exit 1
