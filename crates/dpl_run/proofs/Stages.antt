@@ -39,8 +39,8 @@ module _ (text : List ℕ) (sets : List (List ℕ)) where
   pub program-open : (t : ProgramTree Text) (is : IsProgram text sets t) → first_of task_words is.tokens ≡ None
   program-open t is = none-closed (first_of task_words is.tokens) (refusal t sets) is.unrefused
 
-  pub program-untasked : (t : ProgramTree Text) → IsProgram text sets t → IsUntasked t
-  program-untasked t is = (is.tokens, (text, is.lexes, is.spells), program-open t is)
+  pub program-is-untasked : (t : ProgramTree Text) → IsProgram text sets t → IsUntasked t
+  program-is-untasked t is = (is.tokens, (text, is.lexes, is.spells), program-open t is)
 
   pub program-unrefused : (t : ProgramTree Text) → IsProgram text sets t → refusal t sets ≡ None
   program-unrefused t is = none-refused (first_of task_words is.tokens) (refusal t sets) is.unrefused
@@ -68,7 +68,7 @@ module _ (text : List ℕ) (sets : List (List ℕ)) where
 
   -- and so does one whose run is known, by whatever histories
   pub run-comes : (limits : Limits) (histories : List (List Event)) (t : ProgramTree Text) (o : Outcome) (said : List ℕ) → IsProgram text sets t → Runs (record { tree = t; sets = sets }) limits o said → ComesTo text sets limits histories o said
-  run-comes limits histories t o said is runs = program-comes limits histories t o said is (runs.alike (program-untasked t is) limits.locales histories).means
+  run-comes limits histories t o said is runs = program-comes limits histories t o said is (runs.alike (program-is-untasked t is) limits.locales histories).means
 
   -- what became of a tree that the text's tokens spell
   pub if-ran : (limits : Limits) (t : ProgramTree Text) (ks : List Token) → Lexes text ks → Spells 64 ks t → (r : Result (Result Ended RefusedRun) Stop) → OnOk r (refusal_of task_words sets ks t ≡ None)

@@ -47,7 +47,7 @@ pub fn start<'s, E, P: Promise<T> + Drop, F: FnOnce() -> T + Send + Drop + 's, T
 ) -> Result<PromisedHandle<T, Kept<P>>, SpawnError<F>>
     requires runs { F.pre task }
     requires keeps { (r : T) → F.post task r → P.kept_by promise r }
-    ensures { IfOk result (λ handle. handle.promise.copy.value ≡ promise) }
+    ensures ok { IfOk result (λ handle. handle.promise.copy.value ≡ promise) }
 {
     match Stack::new()
         .stack_size(LARGE_STACK)
