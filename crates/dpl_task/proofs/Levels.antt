@@ -26,6 +26,10 @@ pub AllFrom-push : {A : Type 0} (P : ℕ → A → Type 0) (k n : ℕ) (xs : Lis
 AllFrom-push P k n [] x e all p = let same : n ≡ k = omega arith in (subst (λ (j : ℕ). P j x) same p, tt)
 AllFrom-push P k n (y ∷ xs) x e all p = let next : n ≡ (k + 1) + length xs = omega arith in (all.0, AllFrom-push P (k + 1) n xs x next all.1 p)
 
+pub AllFrom-last : {A : Type 0} (P : ℕ → A → Type 0) (k n : ℕ) (xs : List A) (x : A) → n ≡ k + length xs → AllFrom P k (xs ++ x ∷ []) → AllFrom P k xs × P n x
+AllFrom-last P k n [] x e all = let same : k ≡ n = omega arith in (tt, subst (λ (j : ℕ). P j x) same all.0)
+AllFrom-last P k n (y ∷ xs) x e all = let next : n ≡ (k + 1) + length xs = omega arith in let rest = AllFrom-last P (k + 1) n xs x next all.1 in ((all.0, rest.0), rest.1)
+
 pub AllFrom-weaker : {A : Type 0} (P Q : ℕ → A → Type 0) (k n : ℕ) (xs : List A) → k + length xs ≤ n → ((j : ℕ) (x : A) → j < n → P j x → Q j x) → AllFrom P k xs → AllFrom Q k xs
 AllFrom-weaker P Q k n [] l f all = tt
 AllFrom-weaker P Q k n (x ∷ xs) l f all =

@@ -30,11 +30,11 @@ IsFirstOf (Err why) (Ok b) r = r ≡ why
 IsFirstOf (Err first) (Err second) r = IsFirst first second r
 
 -- fresh seats and frames, one of each for each task, and room for their ends
-pub record MayStart {F : Type 0} (b : BoardValue) (starts : List CellState → F → Type 0) (tries : ℕ) (seats : List SeatValue) (frames : List F) (g : Gathering) : Type 0 where
+pub record MayStart {F : Type 0} (b : BoardValue) (starts : ℕ → List CellState → F → Type 0) (tries : ℕ) (seats : List SeatValue) (frames : List F) (g : Gathering) : Type 0 where
   pub some : 0 < tries
   pub own : IsSeatOf b g.seat
   pub fresh : AreFresh b seats
-  pub start : All (starts b.opening) frames
+  pub start : AllFrom (λ k frame. starts k b.opening frame) 0 frames
   pub count : length frames ≡ length seats
   pub few : length seats ≤ 64
   pub empty : g.ends.items ≡ []

@@ -1,10 +1,10 @@
 //! A coforall: its tasks run at once, and the cells are left as one history of all tasks leaves them.
 //! That history is legal, and each task did by it just what it does by itself.
-ghost use Rattle.std.specs.Prelude.{◌≡◌, ℕ, ◌<◌, ◌≤◌, List, All, vec_len, option_map, IfOk, IfErr};
+ghost use Rattle.std.specs.Prelude.{◌≡◌, ℕ, ◌<◌, ◌≤◌, List, vec_len, option_map, IfOk, IfErr};
 ghost use Rattle.dpl_history.specs.declared.history.Event.{Event};
 ghost use Rattle.dpl_language.specs.Tasks.{first_fault};
 ghost use Rattle.dpl_task.specs.Ends.{named, solos_of};
-ghost use Rattle.dpl_task.specs.Together.{HaveRunTogether};
+ghost use Rattle.dpl_task.specs.Together.{AllFrom, HaveRunTogether};
 ghost use Rattle.dpl_task.specs.Ran.{IsRefusedSo};
 ghost use Rattle.dpl_task.specs.Levels.{MayRefuseOneOf};
 
@@ -56,7 +56,7 @@ pub fn coforall<T: Tasks + Sync, G: Gate + Sync, R: Threads + Wait + Sync>(
     tries: u64,
 ) -> Result<Gathered, Refusal>
     requires few { vec_len frames ≤ 64 }
-    requires starts { All (T.starts tasks.now cells.items) frames.items }
+    requires starts { AllFrom (λ k frame. T.starts tasks.now k cells.items frame) 0 frames.items }
     requires tries { 0 < tries }
     ensures together { IfOk result (λ g. HaveRunTogether (T.alone tasks.now) tries cells.items g.ends.items g.cells.items) }
     ensures count { IfOk result (λ g. vec_len g.ends ≡ vec_len frames) }
