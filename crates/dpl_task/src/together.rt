@@ -11,11 +11,12 @@ ghost use Rattle.dpl_task.specs.Levels.{MayRefuseOneOf};
 use crate::end::{Refusal, TaskEnd};
 use crate::level::{Gathering, Site, run_all};
 use crate::tasks::Tasks;
-use dpl_cell::Board;
+use dpl_cell::{Board, Seat};
 use dpl_frame::Fault;
 use dpl_history::CellState;
 use dpl_loop::Gate;
 use std::alloc::Global;
+use std::snapshot::Snapshot;
 use std::sync::Wait;
 use std::thread::Threads;
 
@@ -24,6 +25,8 @@ use std::thread::Threads;
 pub struct Gathered {
     pub cells: Vec<CellState>,
     pub ends: Vec<TaskEnd>,
+    /// What their seats knew together: the history, and all looks that missed. It is for contracts alone, and has no bytes.
+    pub known: Snapshot<Seat>,
 }
 
 impl Gathered {
@@ -58,7 +61,7 @@ pub fn coforall<T: Tasks + Sync, G: Gate + Sync, R: Threads + Wait + Sync>(
     requires few { vec_len frames ≤ 64 }
     requires starts { AllFrom (λ k frame. T.starts tasks.now k cells.items frame) 0 frames.items }
     requires tries { 0 < tries }
-    ensures together { IfOk result (λ g. HaveRunTogether (T.alone tasks.now) tries cells.items g.ends.items g.cells.items) }
+    ensures together { IfOk result (λ g. HaveRunTogether (T.alone tasks.now) tries cells.items g.ends.items g.known.value g.cells.items) }
     ensures count { IfOk result (λ g. vec_len g.ends ≡ vec_len frames) }
     ensures refused { IfErr result (IsRefusedSo (MayRefuseOneOf (G.may_refuse gate.now) (vec_len frames))) }
 {
@@ -72,8 +75,10 @@ pub fn coforall<T: Tasks + Sync, G: Gate + Sync, R: Threads + Wait + Sync>(
         tries,
     };
     let Gathering { seat, ends } = run_all(rt, &site, seats, frames, Gathering { seat, ends })?;
+    let known = Snapshot::of(&seat);
     Ok(Gathered {
         cells: board.close(seat),
         ends,
+        known,
     })
 }

@@ -23,8 +23,9 @@ returns-clause-together g c =
     let law : legal b.opening u.history c.close.result.items = search rules in
     let ours : AllUpTo b.tasks u.history = search rules in
     let agree : All (Agrees b.opening u.history) u.misses = search rules in
-    subst (λ cs. HaveRunTogether alone tries cs ends c.close.result.items) c.in_ok-board.ensures.opening
-    (run_together b alone tries u ends c.close.result.items c.requires.tries have law ours agree)
+    subst (λ (s : SeatValue). HaveRunTogether alone tries c.args.cells.items ends s c.close.result.items) (sym c.of-known.ensures)
+    (subst (λ cs. HaveRunTogether alone tries cs ends u c.close.result.items) c.in_ok-board.ensures.opening
+    (run_together b alone tries u ends c.close.result.items c.requires.tries have law ours agree))
 
 pub run_all-requires-after_bounds : goal.run_all-requires-after_bounds
 run_all-requires-after_bounds g c κs within = record {
