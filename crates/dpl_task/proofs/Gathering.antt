@@ -2,7 +2,7 @@
 -- The gatherer did nothing itself, so all events are of the tasks; what the seat knows of each task makes its part.
 use Rattle.std.proofs.Common.{◌≡◌, ℕ, zero, suc, ◌+◌, ◌<◌, ◌≤◌, List, [], ◌∷◌, ◌++◌, length, drop, All, Bool, cond, refl, sym, ap, ◌∙◌, subst, arith, eq-eqb, ne_eqb}
 use Rattle.std.specs.Prelude.{Contains}
-use Rattle.std.proofs.lemmas.List.Elements.{All-head, All-tail, All-nil, All-cons, All-contains, Contains-append_right}
+use Rattle.std.proofs.lemmas.List.Elements.{All-head, All-tail, All-nil, All-cons, All-contains, All-weaker, Contains-append_right}
 use mathlib.Core.Logic.{dite}
 use native.Mathlib.Decide.{ℕ_discrete}
 use Rattle.dpl_history.specs.declared.cell.CellState.{CellState}
@@ -20,7 +20,7 @@ use Rattle.dpl_cell.proofs.Numbers.{Has-head}
 use Rattle.dpl_task.specs.declared.end.TaskEnd.{TaskEnd as EndNode}
 use Rattle.dpl_task.specs.declared.end.TaskEnd.TheVariants as end
 use Rattle.dpl_task.specs.Ends.{solo, solos_of}
-use Rattle.dpl_task.specs.Together.{AllFrom, RanAlone, IsLateMiss, HasMissed, HaveRunTogether}
+use Rattle.dpl_task.specs.Together.{AllFrom, RanAlone, IsLateMiss, HasWaitedFor, HasMissed, HaveRunTogether}
 use Rattle.dpl_task.specs.Levels.{KnowsMisses, HasWaitedSo, HasEnded, HaveRun}
 use Rattle.dpl_task.proofs.Levels.{AllFrom-weaker}
 
@@ -56,50 +56,59 @@ others-alone n (e ∷ es) up q = let low = All-head (λ (e : Event). e.task ≤ 
     (λ is. absurd (no_cons e (of_task n es) (sym (ap (λ (b : Bool). cond b (e ∷ of_task n es) (of_task n es)) (eq-eqb e.task n is)) ∙ q)))
     (λ ne. All-cons (λ (e : Event). e.task < n) e es (omega arith) (others-alone n es (All-tail (λ (e : Event). e.task ≤ n) e es up) (sym (ap (λ (b : Bool). cond b (e ∷ of_task n es) (of_task n es)) (ne_eqb e.task n ne)) ∙ q)))
 
-module _ (u : SeatValue) (cells : List CellState) (agree : All (Agrees cells u.history) u.misses) where
-  module _ (k c : ℕ) (op : CellOp) where
-    is_late : (tries : ℕ) (q : KnowsMisses tries k c op u) (m : Miss) → Contains u.misses m → IsMissAt k c op (length q.front) q.high m → IsLateMiss cells u.history k c op m
-    is_late tries q m among a =
-        let rest : List Event = q.begins.0 in
-        let none : of_task k rest ≡ [] = more-none (of_task k q.front) (of_task k rest) (sym (of_task-append k q.front rest) ∙ ap (of_task k) (sym q.begins.1) ∙ q.quiet) in
-        record {
-          task = a.task;
-          cell = a.cell_is;
-          late = ap (λ es. of_task k (drop m.place es)) q.begins.1 ∙ none-behind k m.place q.front rest a.since none;
-          agrees = All-contains (Agrees cells u.history) u.misses m agree among;
-          unfit = a.unfit;
-        }
+module _ (u : SeatValue) where
+  is_late : (tries k c : ℕ) (op : CellOp) (q : KnowsMisses tries k c op u) (m : Miss) → IsMissAt k c op (length q.front) q.high m → IsLateMiss u.history k c op m
+  is_late tries k c op q m a =
+      let rest : List Event = q.begins.0 in
+      let none : of_task k rest ≡ [] = more-none (of_task k q.front) (of_task k rest) (sym (of_task-append k q.front rest) ∙ ap (of_task k) (sym q.begins.1) ∙ q.quiet) in
+      record {
+        task = a.task;
+        cell = a.cell_is;
+        late = ap (λ es. of_task k (drop m.place es)) q.begins.1 ∙ none-behind k m.place q.front rest a.since none;
+        unfit = a.unfit;
+      }
 
-    are_late : (tries : ℕ) (q : KnowsMisses tries k c op u) (ms : List Miss) → ((m : Miss) → Contains ms m → Contains u.misses m) → All (IsMissAt k c op (length q.front) q.high) ms
-        → All (IsLateMiss cells u.history k c op) ms
-    are_late tries q [] known all = All-nil (IsLateMiss cells u.history k c op)
-    are_late tries q (m ∷ ms) known all = All-cons (IsLateMiss cells u.history k c op) m ms
-        (is_late tries q m (known m (0, omega arith, refl)) (All-head (IsMissAt k c op (length q.front) q.high) m ms all))
-        (are_late tries q ms (λ x y. known x (Contains-append_right (m ∷ []) ms x y)) (All-tail (IsMissAt k c op (length q.front) q.high) m ms all))
+  waited_for : (tries k c : ℕ) (op : CellOp) → KnowsMisses tries k c op u → HasWaitedFor tries u.misses u.history k c op
+  waited_for tries k c op q = record {
+    before = q.before;
+    late = q.misses;
+    behind = q.behind;
+    among = q.among;
+    count = q.count;
+    each = All-weaker (IsMissAt k c op (length q.front) q.high) (IsLateMiss u.history k c op) (is_late tries k c op q) q.misses q.each;
+  }
 
-    -- any of these looks is one by which the task has waited
-    waited-by : (ms : List Miss) → 0 < length ms → All (IsLateMiss cells u.history k c op) ms → HasWaited cells u.history k c op
-    waited-by [] some all = absurd (omega arith)
-    waited-by (m ∷ ms) some all = let q = All-head (IsLateMiss cells u.history k c op) m ms all in record {
-      place = m.place;
-      word = m.word;
-      after_its_last = q.late;
-      agrees = subst (λ (j : ℕ). Agrees cells u.history (miss j m.place c m.word)) q.task (subst (λ (d : ℕ). Agrees cells u.history (miss m.task m.place d m.word)) q.cell q.agrees);
-      unfit = q.unfit;
-    }
-
-  has_missed : (tries k : ℕ) (e : EndNode) → HasWaitedSo tries u k e → HasMissed tries cells u.history k e
+  has_missed : (tries k : ℕ) (e : EndNode) → HasWaitedSo tries u k e → HasMissed tries u.misses u.history k e
   has_missed tries k end.Ended q = tt
   has_missed tries k (end.Faulted f) q = tt
-  has_missed tries k (end.Waiting at c op) q = (q.misses, q.count, are_late k c op tries q q.misses q.known q.each)
+  has_missed tries k (end.Waiting at c op) q = waited_for tries k c op q
+
+module _ (u : SeatValue) (cells : List CellState) (agree : All (Agrees cells u.history) u.misses) where
+  -- any of the late looks is one by which the task has waited
+  waited-by : (k c : ℕ) (op : CellOp) (before late behind : List Miss) → u.misses ≡ before ++ (late ++ behind) → 0 < length late → All (IsLateMiss u.history k c op) late
+      → HasWaited cells u.history k c op
+  waited-by k c op before [] behind among some all = absurd (omega arith)
+  waited-by k c op before (m ∷ ms) behind among some all =
+      let q = All-head (IsLateMiss u.history k c op) m ms all in
+      let here : Contains (m ∷ (ms ++ behind)) m = (0, omega arith, refl) in
+      let there : Contains u.misses m = subst (λ (l : List Miss). Contains l m) (sym among) (Contains-append_right before (m ∷ (ms ++ behind)) m here) in
+      let agrees : Agrees cells u.history m = All-contains (Agrees cells u.history) u.misses m agree there in
+      record {
+        place = m.place;
+        word = m.word;
+        after_its_last = q.late;
+        agrees = subst (λ (j : ℕ). Agrees cells u.history (miss j m.place c m.word)) q.task (subst (λ (d : ℕ). Agrees cells u.history (miss m.task m.place d m.word)) q.cell agrees);
+        unfit = q.unfit;
+      }
 
   has_run : (tries k : ℕ) (e : EndNode) → 0 < tries → HasWaitedSo tries u k e → HasRun cells u.history k (solo (of_task k u.history) e)
   has_run tries k end.Ended some q = record { operations = refl; end = tt }
   has_run tries k (end.Faulted f) some q = record { operations = refl; end = tt }
-  has_run tries k (end.Waiting at c op) some q = record {
-    operations = refl;
-    end = waited-by k c op q.misses (let n = q.count in omega arith) (are_late k c op tries q q.misses q.known q.each);
-  }
+  has_run tries k (end.Waiting at c op) some q =
+      let w : HasWaitedFor tries u.misses u.history k c op = waited_for u tries k c op q in record {
+        operations = refl;
+        end = waited-by k c op w.before w.late w.behind w.among (let n = w.count in omega arith) w.each;
+      }
 
   all_have_run : (alone : ℕ → List Reply → Solo → Type 0) (tries k : ℕ) (ends : List EndNode) → 0 < tries → AllFrom (HasEnded alone tries u) k ends → AllHaveRun cells u.history k (solos_of u.history k ends)
   all_have_run alone tries k [] some all = tt
@@ -111,18 +120,18 @@ solos_of-count h k (e ∷ ends) = ap (λ (m : ℕ). suc m) (solos_of-count h (k 
 
 pub run_together : (b : BoardValue) (alone : ℕ → List Reply → Solo → Type 0) (tries : ℕ) (u : SeatValue) (ends : List EndNode) (left : List CellState) → 0 < tries
     → HaveRun b alone tries b.tasks (fresh_seat b b.tasks) u ends → legal b.opening u.history left → AllUpTo b.tasks u.history → All (Agrees b.opening u.history) u.misses
-    → HaveRunTogether alone tries b.opening ends left
+    → HaveRunTogether alone tries b.opening ends u left
 run_together b alone tries u ends left some h law up agree =
     let n : ℕ = length ends in
     let upto : 0 + length ends ≤ n = omega arith in
     let count : b.tasks ≡ length (solos_of u.history 0 ends) = sym h.count ∙ sym (solos_of-count u.history 0 ends) in
     record {
-      history = u.history;
       together = record {
         is_legal = law;
         of_its_tasks = subst (λ (m : ℕ). All (λ (v : Event). v.task < m) u.history) count (others-alone b.tasks u.history up (h.before b.tasks (Has-head b.tasks [])).1);
         each = all_have_run u b.opening agree alone tries 0 ends some h.each;
       };
       each = AllFrom-weaker (HasEnded alone tries u) (RanAlone alone u.history) 0 n ends upto (λ k e l q. q.0) h.each;
-      missed = AllFrom-weaker (HasEnded alone tries u) (HasMissed tries b.opening u.history) 0 n ends upto (λ k e l q. has_missed u b.opening agree tries k e q.1) h.each;
+      looks = agree;
+      missed = AllFrom-weaker (HasEnded alone tries u) (HasMissed tries u.misses u.history) 0 n ends upto (λ k e l q. has_missed u tries k e q.1) h.each;
     }

@@ -1,6 +1,6 @@
 -- What a level of threads asks, and what it answers of the tasks that it started.
 -- The gatherer's seat has then taken in the seats of all of them.
-use Rattle.std.specs.Prelude.{◌≡◌, ℕ, ◌<◌, ◌≤◌, List, [], length, All, Contains, Result, Ok, Err}
+use Rattle.std.specs.Prelude.{◌≡◌, ℕ, ◌<◌, ◌≤◌, List, [], ◌++◌, length, All, Result, Ok, Err}
 use Rattle.std.specs.Vec.{vec_capacity}
 use Rattle.dpl_history.specs.declared.cell.CellState.{CellState}
 use Rattle.dpl_history.specs.declared.cell.CellOp.{CellOp}
@@ -30,25 +30,27 @@ IsFirstOf (Err why) (Ok b) r = r ≡ why
 IsFirstOf (Err first) (Err second) r = IsFirst first second r
 
 -- fresh seats and frames, one of each for each task, and room for their ends
-pub record MayStart {F : Type 0} (b : BoardValue) (starts : List CellState → F → Type 0) (tries : ℕ) (seats : List SeatValue) (frames : List F) (g : Gathering) : Type 0 where
+pub record MayStart {F : Type 0} (b : BoardValue) (starts : ℕ → List CellState → F → Type 0) (tries : ℕ) (seats : List SeatValue) (frames : List F) (g : Gathering) : Type 0 where
   pub some : 0 < tries
   pub own : IsSeatOf b g.seat
   pub fresh : AreFresh b seats
-  pub start : All (starts b.opening) frames
+  pub start : AllFrom (λ k frame. starts k b.opening frame) 0 frames
   pub count : length frames ≡ length seats
   pub few : length seats ≤ 64
   pub empty : g.ends.items ≡ []
   pub room : length seats ≤ vec_capacity g.ends
 
--- the seat knows so many misses of number k at the cell, behind the number's last event
+-- the seat knows so many misses of number k at the cell, one behind another, behind the number's last event
 pub record KnowsMisses (tries k c : ℕ) (op : CellOp) (s : SeatValue) : Type 0 where
   pub front : List Event
   pub begins : StartsWith s.history front
   pub quiet : of_task k s.history ≡ of_task k front
   pub high : ℕ
+  pub before : List Miss
   pub misses : List Miss
+  pub behind : List Miss
+  pub among : s.misses ≡ before ++ (misses ++ behind)
   pub count : length misses ≡ tries
-  pub known : (m : Miss) → Contains misses m → Contains s.misses m
   pub each : All (IsMissAt k c op (length front) high) misses
 
 abbrev pub HasWaitedSo : ℕ → SeatValue → ℕ → EndNode → Type 0

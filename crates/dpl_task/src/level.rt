@@ -40,7 +40,7 @@ fn run_one<T: Tasks, G: Gate>(
     requires tries { 0 < site.now.tries }
     requires few { number < 64 }
     requires fresh { seat ≡ fresh_seat site.now.board.now number }
-    requires starts { T.starts site.now.tasks.now site.now.board.now.opening frame }
+    requires starts { T.starts site.now.tasks.now number site.now.board.now.opening frame }
     ensures { Ran site.now.board.now (T.alone site.now.tasks.now) (G.may_refuse site.now.gate.now) site.now.tries number result.0 result.1 }
 {
     if site.gate.is_open() || site.gate.enter(number as u32, number) {
@@ -103,7 +103,7 @@ fn start_all<'s, E, T: Tasks + Sync, G: Gate + Sync, R: Threads + Sync>(
         requires tries { 0 < site.now.tries }
         requires few { number < 64 }
         requires fresh { seat ≡ fresh_seat site.now.board.now number }
-        requires starts { T.starts site.now.tasks.now site.now.board.now.opening frame }
+        requires starts { T.starts site.now.tasks.now number site.now.board.now.opening frame }
         ensures { Ran site.entry.now.board.now (T.alone site.entry.now.tasks.now)
             (G.may_refuse site.entry.now.gate.now) site.entry.now.tries number result.0 result.1 }
     { run_one(site, number, seat, frame) };

@@ -15,8 +15,8 @@ pub trait Tasks {
     /// What each task gets of its own.
     type Frame: Send + Drop;
 
-    // A task may start with this frame where these are the cells.
-    ghost starts: { Self → List CellState → Self.Frame → Type 0 };
+    // The task of a number may start with this frame where these are the cells.
+    ghost starts: { Self → ℕ → List CellState → Self.Frame → Type 0 };
 
     // What the task of a number does by itself, where its operations get these replies and then no more.
     ghost alone: { Self → ℕ → List Reply → Solo → Type 0 };
@@ -36,6 +36,6 @@ pub trait Tasks {
         requires tries { 0 < tries }
         requires few { number < 64 }
         requires fresh { seat ≡ fresh_seat board.now number }
-        requires starts { starts self.now board.now.opening frame }
+        requires starts { starts self.now number board.now.opening frame }
         ensures { Ran board.now (alone self.now) (λ _ _. ⊥) tries number result.0 result.1 };
 }

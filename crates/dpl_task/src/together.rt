@@ -1,21 +1,22 @@
 //! A coforall: its tasks run at once, and the cells are left as one history of all tasks leaves them.
 //! That history is legal, and each task did by it just what it does by itself.
-ghost use Rattle.std.specs.Prelude.{◌≡◌, ℕ, ◌<◌, ◌≤◌, List, All, vec_len, option_map, IfOk, IfErr};
+ghost use Rattle.std.specs.Prelude.{◌≡◌, ℕ, ◌<◌, ◌≤◌, List, vec_len, option_map, IfOk, IfErr};
 ghost use Rattle.dpl_history.specs.declared.history.Event.{Event};
 ghost use Rattle.dpl_language.specs.Tasks.{first_fault};
 ghost use Rattle.dpl_task.specs.Ends.{named, solos_of};
-ghost use Rattle.dpl_task.specs.Together.{HaveRunTogether};
+ghost use Rattle.dpl_task.specs.Together.{AllFrom, HaveRunTogether};
 ghost use Rattle.dpl_task.specs.Ran.{IsRefusedSo};
 ghost use Rattle.dpl_task.specs.Levels.{MayRefuseOneOf};
 
 use crate::end::{Refusal, TaskEnd};
 use crate::level::{Gathering, Site, run_all};
 use crate::tasks::Tasks;
-use dpl_cell::Board;
+use dpl_cell::{Board, Seat};
 use dpl_frame::Fault;
 use dpl_history::CellState;
 use dpl_loop::Gate;
 use std::alloc::Global;
+use std::snapshot::Snapshot;
 use std::sync::Wait;
 use std::thread::Threads;
 
@@ -24,6 +25,8 @@ use std::thread::Threads;
 pub struct Gathered {
     pub cells: Vec<CellState>,
     pub ends: Vec<TaskEnd>,
+    /// What their seats knew together: the history, and all looks that missed. It is for contracts alone, and has no bytes.
+    pub known: Snapshot<Seat>,
 }
 
 impl Gathered {
@@ -56,9 +59,9 @@ pub fn coforall<T: Tasks + Sync, G: Gate + Sync, R: Threads + Wait + Sync>(
     tries: u64,
 ) -> Result<Gathered, Refusal>
     requires few { vec_len frames ≤ 64 }
-    requires starts { All (T.starts tasks.now cells.items) frames.items }
+    requires starts { AllFrom (λ k frame. T.starts tasks.now k cells.items frame) 0 frames.items }
     requires tries { 0 < tries }
-    ensures together { IfOk result (λ g. HaveRunTogether (T.alone tasks.now) tries cells.items g.ends.items g.cells.items) }
+    ensures together { IfOk result (λ g. HaveRunTogether (T.alone tasks.now) tries cells.items g.ends.items g.known.value g.cells.items) }
     ensures count { IfOk result (λ g. vec_len g.ends ≡ vec_len frames) }
     ensures refused { IfErr result (IsRefusedSo (MayRefuseOneOf (G.may_refuse gate.now) (vec_len frames))) }
 {
@@ -72,8 +75,10 @@ pub fn coforall<T: Tasks + Sync, G: Gate + Sync, R: Threads + Wait + Sync>(
         tries,
     };
     let Gathering { seat, ends } = run_all(rt, &site, seats, frames, Gathering { seat, ends })?;
+    let known = Snapshot::of(&seat);
     Ok(Gathered {
         cells: board.close(seat),
         ends,
+        known,
     })
 }

@@ -1,6 +1,6 @@
 -- A script that is played is its run by itself, given the replies that it got.
 -- Whatever replies come behind those, the run begins with what was done so far and goes on with the deeds that are left.
-use Rattle.std.proofs.Common.{◌≡◌, ℕ, ℤ, pos, List, [], ◌∷◌, ◌++◌, map, Result, Ok, Err, refl, sym, ap, ◌∙◌, subst, append_assoc, append-nil}
+use Rattle.std.proofs.Common.{◌≡◌, ℕ, suc, ◌+◌, ℤ, pos, List, [], ◌∷◌, ◌++◌, map, Result, Ok, Err, refl, sym, ap, ◌∙◌, subst, arith, append_assoc, append-nil}
 use Rattle.std.proofs.lemmas.List.{map-append}
 use Rattle.dpl_syntax.specs.declared.place.Place.{Place}
 use Rattle.dpl_history.specs.declared.cell.CellOp.{CellOp}
@@ -15,7 +15,8 @@ use Rattle.dpl_cell.specs.Calls.{KeepsNumbers, DidAfter, Waited}
 use Rattle.dpl_cell.proofs.Numbers.{Has-head}
 use Rattle.dpl_cell.proofs.Telling.{DidAfter-mine}
 use Rattle.dpl_task_tests.specs.declared.scripts.Deed.{Deed}
-use Rattle.dpl_task_tests.specs.Scripts.{called, read_by, deed_run, run_of}
+use Rattle.dpl_task.specs.Together.{AllFrom}
+use Rattle.dpl_task_tests.specs.Scripts.{called, read_by, deed_run, run_of, script_of}
 
 -- some operations, and then a run
 abbrev pub behind : List Operation → Solo → Solo
@@ -85,3 +86,13 @@ pub did-none : (n : ℕ) (b : BoardValue) (v u w : SeatValue) (c : ℕ) (op : Ce
     → of_task v.number w.history ≡ of_task v.number u.history
 did-none n b v u w c op fresh keeps waited =
     subst (λ (k : ℕ). of_task k w.history ≡ of_task k u.history) keeps.0 (waited.quiet u.number (acts-alone b v u fresh keeps))
+
+-- where each task has its script as its frame, that is the script of its number
+scripts-from : (P : Type 0) → P → (ys : List (List Deed)) (j : ℕ) (xs : List (List Deed)) → ((i : ℕ) → script_of xs i ≡ script_of ys (j + i)) → AllFrom (λ k x. P × (x ≡ script_of ys k)) j xs
+scripts-from P p ys j [] same = tt
+scripts-from P p ys j (x ∷ xs) same =
+    let here : j + 0 ≡ j = omega arith in
+    ((p, same 0 ∙ ap (script_of ys) here), scripts-from P p ys (j + 1) xs (λ i. let next : j + suc i ≡ (j + 1) + i = omega arith in same (suc i) ∙ ap (script_of ys) next))
+
+pub each-its-own : (P : Type 0) → P → (ys : List (List Deed)) → AllFrom (λ k x. P × (x ≡ script_of ys k)) 0 ys
+each-its-own P p ys = scripts-from P p ys 0 ys (λ i. let first : i ≡ 0 + i = omega arith in ap (script_of ys) first)

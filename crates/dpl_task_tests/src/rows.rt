@@ -3,7 +3,7 @@
 ghost use Rattle.std.specs.Prelude.{◌≡◌, ◌<◌, ◌≤◌, vec_len, IfOk};
 
 use crate::gates::{Shut, enter_and_make};
-use crate::scripts::{Deed, Script, Scripts, play_together};
+use crate::scripts::{Deed, Script, play_together};
 use dpl_cell::{Board, CellOp, CellState};
 use dpl_frame::{Fault, FaultCode, Turn};
 use dpl_loop::{Meeting, OpenGate};
@@ -64,6 +64,19 @@ fn counters(alloc: Global, count: u64) -> Result<Vec<Script>, AllocError>
     let mut all = Vec::new(alloc);
     for _made in 0..64usize {
         all.push(rounds(alloc, 0, 0, count)?)?;
+    }
+    Ok(all)
+}
+
+// 64 tasks of which each stops at a place of its own.
+fn stoppers(alloc: Global) -> Result<Vec<Script>, AllocError>
+    ensures { IfOk result (λ all. vec_len all ≡ 64) }
+{
+    let mut all = Vec::new(alloc);
+    for task in 0..64u32 {
+        all.push(Script {
+            deeds: Vec::from_slice(alloc, &[Deed::Divide(at(task))])?,
+        })?;
     }
     Ok(all)
 }
@@ -197,6 +210,22 @@ fn the_lowest_fault(rt: HostRuntime) -> Result<(), Fail> {
     Ok(())
 }
 
+// Each task gets its own frame: how it ends tells which script it played.
+#[test]
+fn sixty_four_frames(rt: HostRuntime) -> Result<(), Fail> {
+    let all = stoppers(rt.alloc())?;
+    let none = Vec::new(rt.alloc());
+    let Ok(gathered) = play_together(&rt, rt.alloc(), all, none, &OpenGate, 1) else {
+        panic!(rt; "nothing is refused")
+    };
+    let mut ends = Vec::new(rt.alloc());
+    for task in 0..64u32 {
+        ends.push(TaskEnd::Faulted(fault(FaultCode::ZeroDivisor, task)))?;
+    }
+    assert!(rt; gathered.ends.as_slice() == ends.as_slice());
+    Ok(())
+}
+
 #[test]
 fn no_tasks_and_no_cells(rt: HostRuntime) -> Result<(), Fail> {
     let none = Vec::new(rt.alloc());
@@ -236,10 +265,6 @@ fn tasks_that_meet(rt: HostRuntime) -> Result<(), Fail> {
 // The same tasks one after another: the one that is made first meets no other.
 #[test]
 fn tasks_that_do_not_meet(rt: HostRuntime) -> Result<(), Fail> {
-    let scripts = Scripts {
-        all: two(rt.alloc(), &[], &[])?,
-        cells: 0,
-    };
     let Ok((board, mut seats)) = Board::new(rt.alloc(), Vec::new(rt.alloc()), 2) else {
         panic!(rt; "there is memory for the board")
     };
@@ -247,11 +272,11 @@ fn tasks_that_do_not_meet(rt: HostRuntime) -> Result<(), Fail> {
     let one = board.last_seat(&mut seats);
     let zero = board.last_seat(&mut seats);
     assert!(rt;
-        enter_and_make(&Meeting::new(u64::MAX, 1000), &scripts, 0, &board, zero, 1)
+        enter_and_make(rt.alloc(), &Meeting::new(u64::MAX, 1000), 0, &board, zero)
             == Err(Refusal::Gate)
     );
     assert!(rt;
-        enter_and_make(&Meeting::new(u64::MAX, 1000), &scripts, 1, &board, one, 1)
+        enter_and_make(rt.alloc(), &Meeting::new(u64::MAX, 1000), 1, &board, one)
             == Err(Refusal::Gate)
     );
     Ok(())

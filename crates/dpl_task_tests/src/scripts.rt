@@ -16,6 +16,7 @@ use dpl_syntax::Place;
 use dpl_task::{Gathered, Refusal, TaskEnd, Tasks, coforall};
 use std::alloc::Global;
 use std::marker::Model;
+use std::snapshot::Snapshot;
 use std::sync::Wait;
 use std::thread::Threads;
 
@@ -45,10 +46,11 @@ impl Model for Script {
     ghost view = { λ s. s.deeds.items };
 }
 
-/// A script for each task, by its number, over so many cells. A task without a script has ended.
+/// A script for each task, by its number, over so many cells. A task without a script has ended. A task gets its script as its frame, so these
+/// are for the clauses alone.
 #[derive(Drop)]
 pub(crate) struct Scripts {
-    pub(crate) all: Vec<Script>,
+    pub(crate) all: Snapshot<Vec<Script>>,
     pub(crate) cells: usize,
 }
 
@@ -115,28 +117,24 @@ fn play(script: &[Deed], board: &Board, mut seat: Seat, tries: u64) -> (Seat, Ta
 }
 
 impl Tasks for Scripts {
-    type Frame = ();
+    type Frame = Script;
 
     ghost use Rattle.std.specs.Prelude.{◌≡◌, length, pos};
     ghost use Rattle.dpl_task_tests.specs.Scripts.{run_of, script_of};
 
-    ghost starts = { λ s cells _. s.cells ≡ length cells };
+    ghost starts = { λ s k cells script. (s.cells ≡ length cells) × (script ≡ script_of s.all.value.items k) };
 
-    ghost alone = { λ s k rs t. run_of s.cells (script_of s.all.items k) (pos 0) rs ≡ t };
+    ghost alone = { λ s k rs t. run_of s.cells (script_of s.all.value.items k) (pos 0) rs ≡ t };
 
     fn make(
         &self,
-        number: u64,
-        _frame: (),
+        _number: u64,
+        frame: Script,
         board: &Board,
         seat: Seat,
         tries: u64,
     ) -> (Seat, Result<TaskEnd, Refusal>) {
-        let script = match self.all.get(number as usize) {
-            Some(script) => script.deeds.as_slice(),
-            None => &[],
-        };
-        let (seat, end) = play(script, board, seat, tries);
+        let (seat, end) = play(frame.deeds.as_slice(), board, seat, tries);
         (seat, Ok(end))
     }
 }
@@ -154,10 +152,9 @@ pub(crate) fn play_together<G: Gate + Sync, R: Threads + Wait + Sync>(
     requires tries { 0 < tries }
     ensures count { IfOk result (λ g. vec_len g.ends ≡ vec_len all) }
 {
-    let frames = Vec::from_elem(alloc, (), all.len())?;
     let scripts = Scripts {
-        all,
+        all: Snapshot::of(&all),
         cells: cells.len(),
     };
-    coforall(rt, alloc, &scripts, frames, cells, gate, tries)
+    coforall(rt, alloc, &scripts, all, cells, gate, tries)
 }

@@ -1,9 +1,10 @@
 -- A memory in which turns may be made apart, by what is tested of it.
-use Rattle.std.proofs.Common.{◌≡◌, ◌⊎◌, inl, inr, ℕ, zero, suc, ◌-◌, ◌<◌, ◌≤◌, ◌==◌, Bool, true, false, List, [], ◌∷◌, length, map, take, drop, get_or, ℤ, FitsSigned, w64, refl, sym, subst, ap, ◌∙◌, arith}
+use Rattle.std.proofs.Common.{◌≡◌, ◌⊎◌, inl, inr, ℕ, ◌+◌, ◌<◌, ◌≤◌, ◌==◌, Bool, true, false, List, [], ◌∷◌, length, map, drop, get_or, ℤ, FitsSigned, w64, refl, sym, subst, ap, ◌∙◌, arith}
 use Rattle.std.specs.Prelude.{◌||◌}
 use Rattle.std.specs.List.{AllByRecursion, list_any}
 use Rattle.std.proofs.lemmas.Bool.{cases_eq}
 use Rattle.std.proofs.lemmas.Bool.Decides.{nat_tests}
+use Rattle.std.proofs.lemmas.List.{drop_more, drop_all}
 use Rattle.std.proofs.Math.ListN.{get_or-eq_default}
 use Rattle.dpl_sets.specs.Ranges.{RangeValue}
 use Rattle.dpl_sets.specs.TextDomains.{values_of}
@@ -91,13 +92,6 @@ memory-formed h m intents written reduced numbers tuples = record {
   tuple_room = tuples;
 }
 
--- what is behind the first of a list
-pub take-whole : {X : Type 0} (xs : List X) (n : ℕ) → n ≡ length xs → take n xs ≡ xs
-take-whole [] zero long = refl
-take-whole [] (suc n) long = refl
-take-whole (x ∷ xs) zero long = absurd (omega (arith, long))
-take-whole (x ∷ xs) (suc n) long = ap (λ ys. x ∷ ys) (take-whole xs n (omega (arith, long)))
-
 -- slots each of which stands there once, by the first of them
 same-test : (x y : ℕ) → (x == y) ≡ (y == x)
 same-test x y = by (cases_eq x y) where
@@ -108,10 +102,12 @@ same-test x y = by (cases_eq x y) where
       let second : (y == x) ≡ false = grind (arith, nat_tests) in
       first ∙ sym second
 
-pub once-first : (slots : List ℕ) → 1 ≤ length slots → list_any (λ y. y == get_or slots 0 0) (take (length slots - 1) (drop 1 slots)) ≡ false → AreOnce (take (length slots - 1) (drop 1 slots)) → AreOnce slots
-once-first [] some none once = tt
-once-first (x ∷ xs) some none once =
-    let behind : take (length (x ∷ xs) - 1) (drop 1 (x ∷ xs)) ≡ xs = take-whole xs (length (x ∷ xs) - 1) (omega arith) in (
-      ap (λ (test : ℕ → Bool). list_any test xs) (λ i y. same-test x y i) ∙ ap (list_any (λ y. y == x)) (sym behind) ∙ none,
-      subst AreOnce behind once,
-    )
+pub once-next : (x : ℕ) (xs : List ℕ) → list_any (λ y. y == x) xs ≡ false → AreOnce xs → AreOnce (x ∷ xs)
+once-next x xs none once = (ap (λ test. list_any test xs) (λ i y. same-test x y i) ∙ none, once)
+
+-- ONE BEHIND ANOTHER: what is so of a list if it is of those that are left, is so if it is of one fewer
+pub left-next : {X : Type 0} (Q : List X → Type 0) (xs : List X) (k : ℕ) (d : X) → k < length xs → (Q (drop k xs) → Q xs) → (Q (drop (k + 1) xs) → Q (get_or xs k d ∷ drop (k + 1) xs)) → Q (drop (k + 1) xs) → Q xs
+left-next Q xs k d below whole step left = whole (subst Q (sym (drop_more xs k d below)) (step left))
+
+pub left-none : {X : Type 0} (Q : List X → Type 0) (xs : List X) (k : ℕ) → length xs ≤ k → (Q (drop k xs) → Q xs) → Q [] → Q xs
+left-none Q xs k past whole none = whole (subst Q (sym (drop_all k xs past)) none)

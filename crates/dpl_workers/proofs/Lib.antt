@@ -6,6 +6,7 @@ pub mod WorkerEnds
 pub mod Foralls
 pub mod SoleParts
 pub mod TakenApart
+pub mod Intents
 pub mod JobShares
 pub mod Staying
 pub mod Back

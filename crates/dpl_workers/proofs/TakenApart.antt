@@ -1,17 +1,17 @@
 -- Arrays that are taken out of a memory, and apart: what stays of the memory, and what each locale's piece is.
-use Rattle.std.proofs.Common.{◌≡◌, ℕ, zero, suc, ◌+◌, ◌-◌, ◌≤◌, ◌==◌, Bool, true, false, List, [], ◌∷◌, ◌++◌, length, map, take, drop, get_or, Option, Some, None, IsSome, Result, Ok, Err, IfOk, refl, sym, subst, ap, ◌∙◌, slice_index_or, arith, append_assoc}
+use Rattle.std.proofs.Common.{◌≡◌, ℕ, zero, suc, ◌+◌, ◌<◌, ◌≤◌, ◌==◌, Bool, true, false, List, [], ◌∷◌, ◌++◌, length, map, take, drop, get_or, set, Option, Some, None, IsSome, refl, sym, subst, ap, ◌∙◌, slice_index_or, arith, append_assoc}
 use Rattle.std.specs.Prelude.{◌||◌, if◌then◌else◌, slice_set}
 use Rattle.std.proofs.lemmas.Bool.Decides.{nat_tests}
-use Rattle.std.proofs.lemmas.List.{length-set, get_or-set_other}
+use Rattle.std.proofs.lemmas.List.{length-set, get_or-set_other, length-take-le, set_at, take_more, drop_more, get_or_append_left, get_or-take}
 use Rattle.dpl_map.specs.Maps.{AxisValue, owner, locales}
 use Rattle.dpl_array.specs.Arrays.{counted}
 use Rattle.dpl_memory.specs.Memory.{Held, Memory, no_array, array_at, with_array, is_among}
 use Rattle.dpl_memory.specs.Pieces.{owned_piece}
 use Rattle.dpl_contents.specs.Parted.{Parted, parted, piece_of, with_piece}
 use Rattle.dpl_apart.specs.Rows.{AreOnce}
+use Rattle.dpl_frame.specs.declared.share.Share.{Share}
 use Rattle.dpl_frame.specs.declared.share.Share.TheVariants.{Lent, Piece}
 use Rattle.dpl_workers.specs.declared.taken.Taken.{Taken}
-use Rattle.dpl_workers.proofs.FormedMemories.{take-whole}
 use Rattle.dpl_workers.specs.Taken.{emptied, taken_from, all_taken, AreThere, piece_share, share_of, without, lacking}
 
 -- WHAT STAYS
@@ -54,26 +54,12 @@ taken-beside axes m slot (k ∷ slots) none = by (slot == k) refl none (taken-be
       ap (λ (a : Held). record { slot = k; pieces = parted axes a } ∷ map (taken_from axes (with_array slot no_array m)) slots) (other-array slot k m other)
       ∙ ap (λ ts. taken_from axes m k ∷ ts) (rest none)
 
-taken-next : (axes : List AxisValue) (m : Memory) (slot : ℕ) (slots : List ℕ) (before : List Taken) (t : Taken) → AreOnce (slot ∷ slots) → t ≡ taken_from axes m slot
+pub taken-next : (axes : List AxisValue) (m : Memory) (slot : ℕ) (slots : List ℕ) (before : List Taken) (t : Taken) → AreOnce (slot ∷ slots) → t ≡ taken_from axes m slot
     → (before ++ t ∷ []) ++ map (taken_from axes (with_array slot no_array m)) slots ≡ before ++ map (taken_from axes m) (slot ∷ slots)
 taken-next axes m slot slots before t once is =
     ap (λ ts. (before ++ t ∷ []) ++ ts) (taken-beside axes m slot slots once.0)
     ∙ append_assoc before (t ∷ []) (map (taken_from axes m) slots)
     ∙ ap (λ t. before ++ t ∷ map (taken_from axes m) slots) is
-
--- the first of all arrays, before the others
-pub all-taken : {V E : Type 0} (items : V → List Taken) (r : Result V E) (axes : List AxisValue) (m n : Memory) (slots : List ℕ) (before more : List Taken) (t : Taken)
-    → 1 ≤ length slots → AreOnce slots → n ≡ with_array (get_or slots 0 0) no_array m → more ≡ before ++ t ∷ [] → t ≡ taken_from axes m (get_or slots 0 0)
-    → IfOk r (λ ts. items ts ≡ more ++ all_taken axes n (take (length slots - 1) (drop 1 slots))) → IfOk r (λ ts. items ts ≡ before ++ all_taken axes m slots)
-all-taken items r axes m n [] before more t some once left pushed is all = absurd (omega (arith, some))
-all-taken items (Ok ts) axes m n (slot ∷ slots) before more t some once left pushed is all =
-    let behind : take (length (slot ∷ slots) - 1) (drop 1 (slot ∷ slots)) ≡ slots = take-whole slots (length (slot ∷ slots) - 1) (omega arith) in
-    all
-    ∙ ap (λ ts. ts ++ all_taken axes n (take (length (slot ∷ slots) - 1) (drop 1 (slot ∷ slots)))) pushed
-    ∙ ap (λ n. (before ++ t ∷ []) ++ all_taken axes n (take (length (slot ∷ slots) - 1) (drop 1 (slot ∷ slots)))) left
-    ∙ ap (λ slots. (before ++ t ∷ []) ++ all_taken axes (with_array slot no_array m) slots) behind
-    ∙ taken-next axes m slot slots before t once is
-all-taken items (Err e) axes m n (slot ∷ slots) before more t some once left pushed is all = tt
 
 -- THE PIECES OF LOCALES
 -- a piece that is there was there before others were taken out
@@ -156,3 +142,41 @@ module _ (axes : List AxisValue) (m : Memory) (l k : ℕ) where
         → (if c then piece_share (piece_of l (parted axes (array_at slot m))) else share_of l k (map (taken_from axes m) slots)) ≡ Lent
     by true e none rest = absurd cc
     by false e none rest = rest none
+
+-- FROM THE LAST ARRAY ON a locale's pieces are taken out
+module _ (l : ℕ) (ts now : List Taken) (k n : ℕ) (next : n ≡ k + 1) (long : n ≤ length ts) (so_far : now ≡ take n ts ++ map (lacking (l ∷ [])) (drop n ts)) (t : Taken) (is : t ≡ get_or now k t) where
+  below : k < length ts
+  below = omega (arith, next, long)
+
+  here : t ≡ get_or ts k t
+  here =
+      let within : k < length (take n ts) = let many = length-take-le n ts long in omega (arith, next, many) in
+      let less : k < n = omega (arith, next) in
+      is ∙ ap (λ (us : List Taken). get_or us k t) so_far ∙ get_or_append_left (take n ts) (map (lacking (l ∷ [])) (drop n ts)) t k within ∙ get_or-take n ts k t less
+
+  split : drop k ts ≡ t ∷ drop n ts
+  split = drop_more ts k t below ∙ ap (λ (x : Taken). x ∷ drop (k + 1) ts) (sym here) ∙ ap (λ (j : ℕ). t ∷ drop j ts) (sym next)
+
+  firsts : take n ts ≡ take k ts ++ t ∷ []
+  firsts = ap (λ (j : ℕ). take j ts) next ∙ take_more ts k t below ∙ ap (λ (x : Taken). take k ts ++ x ∷ []) (sym here)
+
+  pub lacking-from : (one : Taken) → one ≡ lacking (l ∷ []) t → set now k one ≡ take k ts ++ map (lacking (l ∷ [])) (drop k ts)
+  lacking-from one made =
+      let rest : List Taken = map (lacking (l ∷ [])) (drop n ts) in
+      let most : k ≤ length ts = omega (arith, next, long) in
+      ap (λ (us : List Taken). set us k one) (so_far ∙ ap (λ (us : List Taken). us ++ rest) firsts ∙ append_assoc (take k ts) (t ∷ []) rest)
+      ∙ set_at (take k ts) t rest one k (length-take-le k ts most)
+      ∙ ap (λ (x : Taken). take k ts ++ x ∷ rest) made
+      ∙ ap (λ (us : List Taken). take k ts ++ map (lacking (l ∷ [])) us) (sym split)
+
+  pub there-from : (p : Held) → Some p ≡ piece_of l t.pieces → AreThere l (drop n ts) → AreThere l (drop k ts)
+  there-from p some there = subst (AreThere l) (sym split) (subst IsSome some refl, there)
+
+  pub share-from : (p : Held) → Some p ≡ piece_of l t.pieces → (slot : ℕ) → slot ≡ t.slot → (old new : List Share)
+      → ((k : ℕ) → get_or new k Lent ≡ (if k == slot then Piece p else get_or old k Lent)) → ((k : ℕ) → get_or old k Lent ≡ share_of l k (drop n ts)) → (j : ℕ) → get_or new j Lent ≡ share_of l j (drop k ts)
+  share-from p some slot own old new put before j =
+      put j
+      ∙ ap (λ (i : ℕ). if j == i then Piece p else get_or old j Lent) own
+      ∙ ap (λ (o : Option Held). if j == t.slot then piece_share o else get_or old j Lent) some
+      ∙ ap (λ (s : Share). if j == t.slot then piece_share (piece_of l t.pieces) else s) (before j)
+      ∙ ap (share_of l j) (sym split)

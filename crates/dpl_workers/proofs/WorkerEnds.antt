@@ -1,5 +1,5 @@
 -- How a forall ends by how its workers' turns ended: the soonest of their ends is that of the forall.
-use Rattle.std.proofs.Common.{◌≡◌, ◌≤◌, ◌-◌, ℕ, zero, suc, ◌==◌, ℤ, pos, Bool, true, false, cond, List, [], ◌∷◌, ◌++◌, Option, Some, None, Result, Ok, Err, length, take, drop, get_or, slice_get, refl, sym, ap, ◌∙◌, subst, arith}
+use Rattle.std.proofs.Common.{◌≡◌, ◌<◌, ◌≤◌, ◌+◌, ◌-◌, ℕ, zero, suc, ◌==◌, ℤ, pos, Bool, true, false, cond, List, [], ◌∷◌, ◌++◌, Option, Some, None, Result, Ok, Err, length, take, drop, get_or, slice_get, refl, sym, ap, ◌∙◌, subst, arith}
 use Rattle.std.specs.Prelude.{nat_lt, if◌then◌else◌}
 use Rattle.std.specs.List.{AllByRecursion}
 use Rattle.std.proofs.lemmas.Bool.Decides.{nat_tests}
@@ -15,9 +15,11 @@ use Rattle.dpl_frame.specs.declared.fault.Turn.{Turn}
 use Rattle.dpl_frame.specs.declared.fault.Turn.TheVariants as turn
 use Rattle.dpl_frame.specs.Faults.{turn_view}
 use Rattle.dpl_loop.specs.declared.stop.RunStop.{RunStop}
+use Rattle.dpl_loop.specs.declared.stop.RunStop.TheVariants as stop
 use Rattle.dpl_workers.specs.declared.job.Worked.{Worked}
 use Rattle.dpl_frame.specs.Shares.{Plain}
 use Rattle.dpl_workers.specs.Joined.{word_left, words_left, words_behind, words_by}
+use Rattle.dpl_workers.specs.Workers.{IsUnmade}
 use Rattle.dpl_workers.specs.Soonest.{spot_in, rank_in, sooner_in, EndsFrom, IsSoonest}
 
 -- ---- lists
@@ -96,6 +98,29 @@ place-within t (x ∷ xs) = by (same_index t x) (place-within t xs) where
   by : (c : Bool) → place_in xs t ≤ length xs → cond c 0 (suc (place_in xs t)) ≤ suc (length xs)
   by true rest = omega arith
   by false rest = omega (arith, rest)
+
+-- ---- what is told where workers were not all made
+sooner-unmade : (ts : List Index) (h i : RunStop) → IsUnmade h → nat_lt (rank_in ts i) (rank_in ts h) ≡ true → IsUnmade i
+sooner-unmade ts h stop.Memory un less = tt
+sooner-unmade ts h stop.Thread un less = tt
+sooner-unmade ts stop.Memory stop.Gate un less = absurd cc
+sooner-unmade ts stop.Thread stop.Gate un less = absurd cc
+sooner-unmade ts stop.Gate stop.Gate un less = absurd un
+sooner-unmade ts (stop.Fault g) stop.Gate un less = absurd un
+sooner-unmade ts stop.Memory (stop.Fault f) un less = let below : 3 + spot_in ts (turn_view f.turn) < 0 = grind (arith, nat_tests) in absurd (omega (arith, below))
+sooner-unmade ts stop.Thread (stop.Fault f) un less = let below : 3 + spot_in ts (turn_view f.turn) < 1 = grind (arith, nat_tests) in absurd (omega (arith, below))
+sooner-unmade ts stop.Gate (stop.Fault f) un less = absurd un
+sooner-unmade ts (stop.Fault g) (stop.Fault f) un less = absurd un
+
+abbrev told_of : Bool → RunStop → RunStop → Result (Unit {0}) RunStop
+told_of c i h = if c then Err i else Err h
+
+pub told-unmade : (ts : List Index) (h : RunStop) (end : Result (Unit {0}) RunStop) (told : RunStop) → IsUnmade h → sooner_in ts (Err h) end ≡ Err told → IsUnmade told
+told-unmade ts h (Ok v) told un is = let same : h ≡ told = cc in subst IsUnmade same un
+told-unmade ts h (Err i) told un is = by (nat_lt (rank_in ts i) (rank_in ts h)) refl is where
+  by : (c : Bool) → nat_lt (rank_in ts i) (rank_in ts h) ≡ c → told_of c i h ≡ Err told → IsUnmade told
+  by true less is = let same : i ≡ told = cc in subst IsUnmade same (sooner-unmade ts h i un less)
+  by false less is = let same : h ≡ told = cc in subst IsUnmade same un
 
 -- ---- the soonest of several ends
 ends-later : (ts : List Index) (n k : ℕ) (e : Result (Unit {0}) RunStop) → k ≤ n → EndsFrom ts n e → EndsFrom ts k e

@@ -26,6 +26,11 @@ sooner_in ts (Ok v) other = other
 sooner_in ts (Err h) (Ok v) = Err h
 sooner_in ts (Err h) (Err i) = if nat_lt (rank_in ts i) (rank_in ts h) then Err i else Err h
 
+-- what is told where workers were not all made, and the turns of one behind them have ended so: the sooner of the two
+abbrev pub IsToldOf : {A : Type 0} → List Index → Result A RunStop → Result (Unit {0}) RunStop → RunStop → Type 0
+IsToldOf ts (Ok a) end told = ⊥
+IsToldOf ts (Err h) end told = sooner_in ts (Err h) end ≡ Err told
+
 -- turns that end so early at the earliest
 abbrev pub EndsFrom : List Index → ℕ → Result (Unit {0}) RunStop → Type 0
 EndsFrom ts n (Ok v) = Unit {0}

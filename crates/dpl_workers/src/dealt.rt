@@ -13,13 +13,15 @@ const LONG: usize = 32;
 
 // Whether the arrays in some slots are cut by a map.
 fn are_cut_by(slots: &[usize], map: &Map, frame: &Frame<Slots>) -> bool {
-    let [slot, rest @ ..] = slots else {
-        return true;
-    };
-    let Some(array) = frame.array(*slot) else {
-        return false;
-    };
-    array.is_cut_by(map) && are_cut_by(rest, map, frame)
+    for slot in slots {
+        let Some(array) = frame.array(*slot) else {
+            return false;
+        };
+        if !array.is_cut_by(map) {
+            return false;
+        }
+    }
+    true
 }
 
 // Whether many words of an array stand side by side, as those from its first index on do.
@@ -35,13 +37,15 @@ fn has_long_rows(array: &ArrayWords) -> bool {
 // Whether the arrays in some slots are soon dealt anew, beside so many turns: each is copied by rows, and has at most twice as many elements, as
 // those have that a loop over their inner part writes. One of them is dealt out by the loop's map, so rows are long by that map, too.
 fn are_soon_dealt(slots: &[usize], turns: u64, frame: &Frame<Slots>) -> bool {
-    let [slot, rest @ ..] = slots else {
-        return true;
-    };
-    let Some(array) = frame.array(*slot) else {
-        return false;
-    };
-    array.domain().size() / 2 <= turns && has_long_rows(array) && are_soon_dealt(rest, turns, frame)
+    for slot in slots {
+        let Some(array) = frame.array(*slot) else {
+            return false;
+        };
+        if array.domain().size() / 2 > turns || !has_long_rows(array) {
+            return false;
+        }
+    }
+    true
 }
 
 /// Whether the arrays in some slots are cut by a loop's map, or may be dealt anew for its workers. That takes two copies of each, so with an

@@ -34,40 +34,48 @@ fn has_elements(slot: usize, frame: &Frame<Slots>) -> bool
 fn have_elements(slots: &[usize], frame: &Frame<Slots>) -> bool
     ensures { result ≡ true → AllByRecursion (HasPiece frame.now.memory) slots.now }
 {
-    match slots {
-        [] => true,
-        [slot, rest @ ..] => has_elements(*slot, frame) && have_elements(rest, frame),
+    for slot in slots {
+        if !has_elements(*slot, frame) {
+            return false;
+        }
     }
+    true
 }
 
 // Whether each of some slots stands among them once.
 fn are_once(slots: &[usize]) -> bool
     ensures { result ≡ true → AreOnce slots.now }
 {
-    match slots {
-        [] => true,
-        [slot, rest @ ..] => !rest.contains(slot) && are_once(rest),
+    for (k, slot) in slots.iter().enumerate() {
+        if slots[k + 1..].contains(slot) {
+            return false;
+        }
     }
+    true
 }
 
 // Whether there are numbers in some slots.
 fn have_numbers(slots: &[usize], frame: &Frame<Slots>) -> bool
     ensures { result ≡ true → AllByRecursion (λ slot. slot < length frame.now.memory.words.numbers) slots.now }
 {
-    match slots {
-        [] => true,
-        [slot, rest @ ..] => frame.has_number(*slot) && have_numbers(rest, frame),
+    for slot in slots {
+        if !frame.has_number(*slot) {
+            return false;
+        }
     }
+    true
 }
 
 // Whether there are indices in some slots.
 fn have_tuples(slots: &[usize], frame: &Frame<Slots>) -> bool
     ensures { result ≡ true → AllByRecursion (λ slot. slot < length frame.now.memory.tuples) slots.now }
 {
-    match slots {
-        [] => true,
-        [slot, rest @ ..] => frame.has_tuple(*slot) && have_tuples(rest, frame),
+    for slot in slots {
+        if !frame.has_tuple(*slot) {
+            return false;
+        }
     }
+    true
 }
 
 // Whether a word is one of the kind that an operator combines: a truth value for `&&` and `||`, and an int for the others.
@@ -84,10 +92,12 @@ fn is_exact(op: Op, word: i64) -> bool
 fn is_reduced(slot: usize, intents: &[Intent]) -> bool
     ensures { result ≡ is_among slot (map (λ p. p.0) (intents_by_slot (map intent_view intents.now))) }
 {
-    match intents {
-        [] => false,
-        [intent, rest @ ..] => slot == intent.slot || is_reduced(slot, rest),
+    for intent in intents {
+        if slot == intent.slot {
+            return true;
+        }
     }
+    false
 }
 
 // Whether a reduce variable has a slot of its own, which is there and doesn't begin anew, and in it a word of its kind.
@@ -110,25 +120,27 @@ fn may_reduce(intent: &Intent, others: &[Intent], numbers: &[usize], frame: &Fra
 fn are_reduced(intents: &[Intent], numbers: &[usize], frame: &Frame<Slots>) -> bool
     ensures { result ≡ true → AreReduced numbers.now frame.now.memory (intents_by_slot (map intent_view intents.now)) }
 {
-    match intents {
-        [] => true,
-        [intent, rest @ ..] => {
-            may_reduce(intent, rest, numbers, frame) && are_reduced(rest, numbers, frame)
+    for (k, intent) in intents.iter().enumerate() {
+        if !may_reduce(intent, &intents[k + 1..], numbers, frame) {
+            return false;
         }
     }
+    true
 }
 
 // Whether two lists of reduce variables have the same slots and operators.
 fn are_same(intents: &[Intent], others: &[Intent]) -> bool
     ensures { result ≡ true → intents_by_slot (map intent_view intents.now) ≡ intents_by_slot (map intent_view others.now) }
 {
-    let [intent, rest @ ..] = intents else {
-        return others.is_empty();
-    };
-    let [other, behind @ ..] = others else {
+    if intents.len() != others.len() {
         return false;
-    };
-    intent.slot == other.slot && intent.op == other.op && are_same(rest, behind)
+    }
+    for (intent, other) in intents.iter().zip(others) {
+        if intent.slot != other.slot || intent.op != other.op {
+            return false;
+        }
+    }
+    true
 }
 
 /// Whether turns that tell how they may be made apart may be made so over what a frame holds.

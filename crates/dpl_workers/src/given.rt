@@ -59,23 +59,18 @@ pub(crate) fn give_back(
     ensures stay { OnOk result (AllStay worked.old worked.new) }
     ensures limits { frame.new.limits ≡ frame.old.limits }
 {
-    let mut taken = taken;
-    let Some(last) = taken.pop() else {
-        return Ok(());
-    };
-    let Ok(()) = give_back(taken, worked, frame) else {
-        return Err(AllocError);
-    };
-    let Taken { slot, mut pieces } = last;
-    if !put_all(slot, worked, &mut pieces) {
-        return Err(AllocError);
+    for one in taken {
+        let Taken { slot, mut pieces } = one;
+        if !put_all(slot, worked, &mut pieces) {
+            return Err(AllocError);
+        }
+        let Some(whole) = pieces.put_back() else {
+            return Err(AllocError);
+        };
+        let Ok(array) = whole.dealt(frame.alloc(), &frame.owner(slot)) else {
+            return Err(AllocError);
+        };
+        frame.keep_array(slot, array);
     }
-    let Some(whole) = pieces.put_back() else {
-        return Err(AllocError);
-    };
-    let Ok(array) = whole.dealt(frame.alloc(), &frame.owner(slot)) else {
-        return Err(AllocError);
-    };
-    frame.keep_array(slot, array);
     Ok(())
 }

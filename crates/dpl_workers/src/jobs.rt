@@ -1,7 +1,7 @@
 // The jobs of a forall's workers, one for each locale that has a part of the loop's domain. A worker owns its locale's pieces of the arrays that
 // were taken apart, and is lent all others.
 
-ghost use Rattle.std.specs.Prelude.{◌≡◌, ◌==◌, if◌then◌else◌, ℕ, List, [], ◌∷◌, map, length, get_or, IfOk, OnOk};
+ghost use Rattle.std.specs.Prelude.{◌≡◌, ◌<◌, ◌==◌, if◌then◌else◌, ℕ, List, [], ◌∷◌, map, length, get_or, vec_len, IfOk, OnOk};
 ghost use Rattle.std.specs.List.{AllByRecursion};
 ghost use Rattle.dpl_sets.specs.Ranges.{RangeValue};
 ghost use Rattle.dpl_map.specs.Maps.{AxisValue};
@@ -22,16 +22,24 @@ use dpl_loop::Apart;
 use dpl_nodes::Intent;
 use std::alloc::{AllocError, Global};
 
-// Puts a share into a slot. The slots up to it are lent.
+// Makes room for a share. The slots up to it are lent.
+fn make_room(own: &mut Vec<Share>, slot: usize) -> Result<(), AllocError>
+    ensures room { OnOk result (slot < vec_len own.new) }
+    ensures same { OnOk result ((k : ℕ) → get_or own.new.items k Lent ≡ get_or own.old.items k Lent) }
+{
+    while own.len() <= slot {
+        own.push(Share::Lent)?;
+    }
+    Ok(())
+}
+
+// Puts a share into a slot.
 fn put_share(own: &mut Vec<Share>, slot: usize, share: Share) -> Result<(), AllocError>
     ensures { OnOk result ((k : ℕ) → get_or own.new.items k Lent ≡ (if k == slot then share else get_or own.old.items k Lent)) }
 {
-    if slot < own.len() {
-        own[slot] = share;
-        return Ok(());
-    }
-    own.push(Share::Lent)?;
-    put_share(own, slot, share)
+    make_room(own, slot)?;
+    own[slot] = share;
+    Ok(())
 }
 
 // What a locale owns of the arrays that were taken apart: its pieces are taken out, each into its array's slot.
@@ -40,15 +48,15 @@ fn own_of(locale: u32, taken: &mut [Taken], alloc: Global) -> Result<Vec<Share>,
     ensures taken { OnOk result (taken.new ≡ map (lacking (locale ∷ [])) taken.old) }
     ensures own { IfOk result (λ own. (slot : ℕ) → get_or own.items slot Lent ≡ share_of locale slot taken.old) }
 {
-    let Some((first, rest)) = taken.split_first_mut() else {
-        return Ok(Vec::new(alloc));
-    };
-    let mut own = own_of(locale, rest, alloc)?;
-    // Each locale of the map has a piece, which is taken once: it would have to be made anew, for which no memory is taken.
-    let Some(piece) = first.pieces.take(locale) else {
-        return Err(AllocError);
-    };
-    put_share(&mut own, first.slot, Share::Piece(piece))?;
+    let mut own = Vec::new(alloc);
+    for k in (0..taken.len()).rev() {
+        let one = &mut taken[k];
+        // Each locale of the map has a piece, which is taken once: it would have to be made anew, for which no memory is taken.
+        let Some(piece) = one.pieces.take(locale) else {
+            return Err(AllocError);
+        };
+        put_share(&mut own, one.slot, Share::Piece(piece))?;
+    }
     Ok(own)
 }
 

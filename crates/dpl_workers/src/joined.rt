@@ -35,10 +35,11 @@ fn combined(op: Op, v: i64, w: i64) -> i64
 fn joined(op: Op, slot: usize, worked: &[Worked], word: i64) -> i64
     ensures { result ≡ word_left (slot, op) worked.now word }
 {
-    match worked {
-        [] => word,
-        [first, rest @ ..] => joined(op, slot, rest, combined(op, word, first.words.number(slot))),
+    let mut word = word;
+    for one in worked {
+        word = combined(op, word, one.words.number(slot));
     }
+    word
 }
 
 /// Other words, and behind them those of reduce variables, to which what workers have added is put.
@@ -54,25 +55,19 @@ pub(crate) fn words_left(
     ensures { IfOk result (λ ws. ws.items
         ≡ words_behind words.items (intents_by_slot (map intent_view intents.now)) worked.now frame.now.memory) }
 {
-    let [intent, rest @ ..] = intents else {
-        return Ok(words);
-    };
-    words.push(joined(intent.op, intent.slot, worked, frame.number(intent.slot)))?;
-    words_left(rest, worked, frame, words)
+    for intent in intents {
+        words.push(joined(intent.op, intent.slot, worked, frame.number(intent.slot)))?;
+    }
+    Ok(words)
 }
 
 /// Sets reduce variables to words.
 pub(crate) fn set_words(intents: &[Intent], words: &[i64], frame: &mut Frame<Slots>)
     ensures { frame.new ≡ with_memory (reduced_to (intents_by_slot (map intent_view intents.now)) words.now frame.old.memory) frame.old }
 {
-    let [intent, rest @ ..] = intents else {
-        return;
-    };
-    let [word, others @ ..] = words else {
-        return;
-    };
-    set_words(rest, others, frame);
-    frame.set_number(intent.slot, *word);
+    for k in (0..intents.len().min(words.len())).rev() {
+        frame.set_number(intents[k].slot, words[k]);
+    }
 }
 
 /// Takes the numbers, ranges and tuples that the worker of a locale has left, if it has one.

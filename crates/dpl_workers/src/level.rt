@@ -1,16 +1,18 @@
 // How the jobs of a forall's parts are done: by a worker each, on a thread of its own, or by the caller, one after another.
 // A level starts the worker of the last job, goes down for those before it, then joins the worker and takes what it has left.
 
-ghost use Rattle.std.specs.Prelude.{◌≡◌, [], IfOk, IfErr};
+ghost use Rattle.std.specs.Prelude.{◌≡◌, [], Ok, IfOk, IfErr};
 ghost use Rattle.dpl_sets.specs.Indices.{indices};
 ghost use Rattle.dpl_language.specs.Loops.{named_turn};
 ghost use Rattle.dpl_loop.specs.Values.{MayRefuseAmong};
 ghost use Rattle.dpl_workers.specs.Parts.{indices_of};
 ghost use Rattle.dpl_workers.specs.Workers.{HasWorked, HaveDone, IsUnmade};
+ghost use Rattle.dpl_workers.specs.Soonest.{IsToldOf};
 
 use crate::job::{Job, Worked};
 use crate::part::part_turns;
 use crate::parts::Part;
+use crate::soonest::told_first;
 use dpl_domain::Domain;
 use dpl_frame::{Frame, Shares};
 use dpl_loop::{Gate, RunStop, Turns};
@@ -83,6 +85,23 @@ impl<'a, T: Turns, G: Gate> Promise<Worked> for Working<'a, T, G> {
         (indices_of p.part.now p.site.now.whole.now p.site.now.map.now p.locale) p.began.value.memory w };
 }
 
+// What workers have left, and the one that was joined behind them. Where not all of these were made, what is told of both.
+fn both(
+    whole: &Domain,
+    below: Result<Vec<Worked>, RunStop>,
+    worked: Worked,
+) -> Result<(Vec<Worked>, Worked), RunStop>
+    requires { IfErr below IsUnmade }
+    ensures ok { IfOk result (λ r. (below ≡ Ok r.0) × (worked ≡ r.1)) }
+    ensures told { IfErr result (IsToldOf (indices whole.now) below worked.end) }
+    ensures unmade { IfErr result IsUnmade }
+{
+    match below {
+        Ok(done) => Ok((done, worked)),
+        Err(stop) => Err(told_first(whole, stop, worked.end)),
+    }
+}
+
 // Starts a worker for each job, and takes what they have left, in the order of the jobs.
 fn start_all<'s, E, T: Turns + Sync, G: Gate + Sync, R: Threads + Sync>(
     rt: &R,
@@ -121,16 +140,9 @@ fn start_all<'s, E, T: Turns + Sync, G: Gate + Sync, R: Threads + Sync>(
     };
     let below = start_all(rt, scope, site, jobs, done);
     let worked = handle.join(rt);
-    match below {
-        Ok(mut done) => {
-            done.push(worked)?;
-            Ok(done)
-        }
-        Err(stop) => match worked.end {
-            Err(RunStop::Memory) => Err(RunStop::Memory),
-            _ => Err(stop),
-        },
-    }
+    let (mut done, worked) = both(site.whole, below, worked)?;
+    done.push(worked)?;
+    Ok(done)
 }
 
 // Does these jobs in a scope, each by a worker of its own. All that were started are joined.

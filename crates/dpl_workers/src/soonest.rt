@@ -1,7 +1,7 @@
 // How a forall ends by how the turns of its workers have ended: what was refused goes before a fault, and of faults the one is told whose turn
 // stands first in the loop's domain.
 
-ghost use Rattle.std.specs.Prelude.{◌≡◌, ◌≤◌, ◌^◌};
+ghost use Rattle.std.specs.Prelude.{◌≡◌, ◌≤◌, ◌^◌, Err};
 ghost use Rattle.dpl_sets.specs.Indices.{indices};
 ghost use Rattle.dpl_frame.specs.Faults.{turn_view};
 ghost use Rattle.dpl_workers.specs.Soonest.{spot_in, rank_in, sooner_in, IsSoonest};
@@ -41,7 +41,21 @@ fn rank(whole: &Domain, stop: &RunStop) -> u64
     }
 }
 
-// Of two ends the one that is told. Turns that ended well tell nothing.
+/// Of an early end and another end the one that is told. Turns that ended well tell nothing.
+pub(crate) fn told_first(whole: &Domain, stop: RunStop, other: Result<(), RunStop>) -> RunStop
+    ensures { sooner_in (indices whole.now) (Err stop) other ≡ Err result }
+{
+    let Err(behind) = other else {
+        return stop;
+    };
+    if rank(whole, &behind) < rank(whole, &stop) {
+        behind
+    } else {
+        stop
+    }
+}
+
+// Of two ends the one that is told.
 fn sooner(
     whole: &Domain,
     one: Result<(), RunStop>,
@@ -49,16 +63,9 @@ fn sooner(
 ) -> Result<(), RunStop>
     ensures { result ≡ sooner_in (indices whole.now) one other }
 {
-    let Err(stop) = one else {
-        return other;
-    };
-    let Err(behind) = other else {
-        return one;
-    };
-    if rank(whole, &behind) < rank(whole, &stop) {
-        other
-    } else {
-        one
+    match one {
+        Ok(()) => other,
+        Err(stop) => Err(told_first(whole, stop, other)),
     }
 }
 

@@ -33,19 +33,18 @@ pub(crate) fn take_all(
     ensures limits { frame.new.limits ≡ frame.old.limits }
     ensures taken { IfOk result (λ ts. ts.items ≡ taken.items ++ all_taken map.now frame.old.memory slots.now) }
 {
-    let [slot, rest @ ..] = slots else {
-        return Ok(taken);
-    };
-    let Some(array) = frame.take_array(*slot) else {
-        return Err(AllocError);
-    };
-    let Ok(pieces) = array.take_pieces(frame.alloc(), map) else {
-        return Err(AllocError);
-    };
     let mut taken = taken;
-    taken.push(Taken {
-        slot: *slot,
-        pieces,
-    })?;
-    take_all(rest, map, frame, taken)
+    for slot in slots {
+        let Some(array) = frame.take_array(*slot) else {
+            return Err(AllocError);
+        };
+        let Ok(pieces) = array.take_pieces(frame.alloc(), map) else {
+            return Err(AllocError);
+        };
+        taken.push(Taken {
+            slot: *slot,
+            pieces,
+        })?;
+    }
+    Ok(taken)
 }

@@ -37,9 +37,8 @@ fn unit_word(op: Op) -> i64
 fn set_units<A: Arrays>(intents: &[Intent], frame: &mut Frame<A>)
     ensures { frame.new ≡ with_memory (with_units (intents_by_slot (map intent_view intents.now)) frame.old.memory) frame.old }
 {
-    if let [intent, rest @ ..] = intents {
-        set_units(rest, frame);
-        frame.set_number(intent.slot, unit_word(intent.op));
+    for k in (0..intents.len()).rev() {
+        frame.set_number(intents[k].slot, unit_word(intents[k].op));
     }
 }
 
