@@ -1,9 +1,9 @@
 -- What may stand in each turn of a forall, so that its turns may be made apart.
 use Rattle.std.specs.Prelude.{Option, Some, None, [], map}
-use Rattle.dpl_language.specs.Tree.{ExprTree, ItemTree, One, Items, Stride, StmtTree, Stmts, Else}
+use Rattle.dpl_language.specs.Tree.{ExprTree, ItemTree, One, Links, Items, Stride, StmtTree, Stmts, Else}
 use Rattle.dpl_language.specs.Values.{Index}
 use Rattle.dpl_memory.specs.Memory.{Variable, intents_by_slot}
-use Rattle.dpl_agreement.specs.Scopes.{Scoping, fits_expr, fits_item, fits_items, fits_stride, fits, fits_all, fits_else}
+use Rattle.dpl_agreement.specs.Scopes.{Scoping, fits_expr, fits_links, fits_item, fits_items, fits_stride, fits, fits_all, fits_else}
 use Rattle.dpl_nodes.specs.declared.step.Names.{Names}
 use Rattle.dpl_nodes.specs.declared.tree.IntExpr.{IntExpr}
 use Rattle.dpl_nodes.specs.declared.tree.BoolExpr.{BoolExpr}
@@ -40,6 +40,10 @@ module _ (rules : TurnRules) where
   -- and one that each turn may evaluate at its own index
   abbrev pub MayEvaluateOwn : ExprTree Variable → Type 0
   MayEvaluateOwn e = (t : Index) → fits_expr (allowed t) (Some t) e tt
+
+  -- the further operands of a chain that each turn may evaluate once
+  abbrev pub MayLink : Links Variable → Type 0
+  MayLink links = (t : Index) → fits_links (allowed t) None links tt
 
   abbrev pub MayEvaluateItem : ItemTree Variable → Type 0
   MayEvaluateItem item = (t : Index) → fits_item (allowed t) None item tt

@@ -2,13 +2,13 @@
 
 ghost use Rattle.std.specs.Prelude.{◌≡◌, true};
 ghost use Rattle.dpl_lowered.specs.LoweredExpressions.{EachTurn};
-ghost use Rattle.dpl_nodes.specs.Typed.{int_view, truth_view, range_item, stride_view, ranges_items, index_items, domain_view, promoted_int, promoted_truth};
-ghost use Rattle.dpl_dependence.specs.Turns.{MayEvaluate, MayEvaluateEach, MayEvaluateItem, MayEvaluateItems, MayStride};
+ghost use Rattle.dpl_nodes.specs.Typed.{int_view, int_links_of, truth_view, range_item, stride_view, ranges_items, index_items, domain_view, promoted_int, promoted_truth};
+ghost use Rattle.dpl_dependence.specs.Turns.{MayEvaluate, MayEvaluateEach, MayLink, MayEvaluateItem, MayEvaluateItems, MayStride};
 
 use crate::turn::TurnRules;
 use dpl_nodes::{
-    BoolExpr, DomainExpr, IndexExpr, IntExpr, PromotedInt, PromotedTruth, RangeExpr, RangesExpr,
-    Stride,
+    BoolExpr, DomainExpr, IndexExpr, IntExpr, IntLink, PromotedInt, PromotedTruth, RangeExpr,
+    RangesExpr, Stride,
 };
 
 /// Whether each turn may evaluate an int.
@@ -25,6 +25,7 @@ pub(crate) fn may_int(e: &IntExpr<'_>, rules: &TurnRules<'_>) -> bool
         IntExpr::Product(a, b) => may_int(a, rules) && may_int(b, rules),
         IntExpr::Quotient(a, b, _) => may_int(a, rules) && may_int(b, rules),
         IntExpr::Remainder(a, b, _) => may_int(a, rules) && may_int(b, rules),
+        IntExpr::Chain(first, links) => may_int(first, rules) && may_links(links, rules),
         IntExpr::OfRange(_, r, _) => may_range(r, rules),
         IntExpr::OfDomain(_, d) => may_domain(d, rules),
         IntExpr::Element(slot, index, _) => {
@@ -32,6 +33,19 @@ pub(crate) fn may_int(e: &IntExpr<'_>, rules: &TurnRules<'_>) -> bool
         }
         IntExpr::Reduced(_, each, _) => may_ints(each, rules),
     }
+}
+
+// Whether each turn may evaluate the further operands of a chain.
+#[cycle(ints)]
+fn may_links(links: &[IntLink<'_>], rules: &TurnRules<'_>) -> bool
+    ensures { result ≡ true → MayLink rules.now (int_links_of links.now) }
+{
+    for link in links {
+        if !may_int(link.right, rules) {
+            return false;
+        }
+    }
+    true
 }
 
 /// Whether each turn may evaluate a promoted int at each index.

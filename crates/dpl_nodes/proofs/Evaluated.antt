@@ -16,7 +16,7 @@ use Rattle.dpl_language.specs.Outcome.{with_ok, naming_value}
 use Rattle.dpl_language.specs.Environment.{Limits}
 use Rattle.dpl_language.specs.Expressions.{folded, fold_over, reduction, found, unless_decided, bracketed, whole_in, value_of, item_of, stridden, items_of, values_of}
 use Rattle.dpl_language.specs.Phrases.{Base, base_of}
-use Rattle.dpl_lowered.specs.Shapes.{nowhere, kept}
+use Rattle.dpl_lowered.specs.Shapes.{nowhere, kept, two}
 use Rattle.dpl_lowered.specs.LoweredExpressions.{EachTurn, is_end}
 use Rattle.dpl_words.specs.Words.{LeafKind, IntLeaf, TruthLeaf, RangeLeaf, no_range, IsOfKind}
 use Rattle.dpl_memory.specs.Memory.{Variable, Memory, element_as, array_at, held_at, in_memory}
@@ -30,11 +30,14 @@ use Rattle.dpl_nodes.specs.declared.fold.IntFold.{IntFold}
 use Rattle.dpl_nodes.specs.declared.fold.IntFold.TheVariants as ints
 use Rattle.dpl_nodes.specs.declared.fold.TruthFold.{TruthFold}
 use Rattle.dpl_nodes.specs.declared.fold.TruthFold.TheVariants as truths
-use Rattle.dpl_nodes.specs.declared.tree.IntExpr.{IntExpr, Number as NumberNode, Local as IntLocal, Negative', Sum', Difference', Product', Quotient', Remainder', OfRange', OfDomain', Element', Reduced' as IntReduced'}
+use Rattle.dpl_nodes.specs.declared.tree.IntOperator.{IntOperator}
+use Rattle.dpl_nodes.specs.declared.tree.IntOperator.TheVariants as operator
+use Rattle.dpl_nodes.specs.declared.tree.IntExpr.{IntExpr, Chain', Number as NumberNode, Local as IntLocal, Negative', Sum', Difference', Product', Quotient', Remainder', OfRange', OfDomain', Element', Reduced' as IntReduced'}
 use Rattle.dpl_nodes.specs.declared.tree.BoolExpr.{BoolExpr, Truth as TruthNode, Local as TruthLocal, Not', And', Or', Same', Differ', Compare as CompareNode, Contains as ContainsNode, HasIndex as HasIndexNode, Element as TruthElement, Reduced' as TruthReduced'}
 use Rattle.dpl_nodes.specs.declared.tree.RangeExpr.{RangeExpr, Local as RangeLocal, Between', Slice', Dimension'}
 use Rattle.dpl_nodes.specs.declared.tree.Stride.{Stride as StrideNode, Absent, By'}
-use Rattle.dpl_nodes.specs.Typed.{comparison_view, dots_view, range_word, domain_word, int_view, truth_view, range_view, range_item, stride_view, index_items, index_exprs, domain_view, promoted_int, promoted_truth, int_fold_view, truth_fold_view}
+use Rattle.dpl_nodes.specs.Typed.{comparison_view, dots_view, range_word, domain_word, int_view, int_infix, int_place, truth_view, range_view, range_item, stride_view, index_items, index_exprs, domain_view, promoted_int, promoted_truth, int_fold_view, truth_fold_view}
+use Rattle.dpl_nodes.proofs.Chains.{int_links-hold}
 
 -- a value of a kind, or a fault
 abbrev pub Gives : LeafKind → Result Value Fault → Type 0
@@ -210,6 +213,14 @@ module _ (limits : Limits) (s : Memory) where
   range_gives (Slice' p r q cut) = sliced (base_of (range_view r)) (value (range_view r)) (items_of limits in_memory (FirstItem (range_item cut) NoItems) s) (range_gives r)
   range_gives (Dimension' p d n) = dimensioned n (value (domain_view d))
 
+  -- a chain with one operand more
+  int_linked : (op : IntOperator) (a b : ExprTree Variable) → Gives IntLeaf (value (two a (int_place op) (int_infix op) b))
+  int_linked operator.Sum a b = int_two (λ v w. wrap (number v +ℤ number w)) (value a) (value b) false nowhere
+  int_linked operator.Difference a b = int_two (λ v w. wrap (number v -ℤ number w)) (value a) (value b) false nowhere
+  int_linked operator.Product a b = int_two (λ v w. wrap (number v *ℤ number w)) (value a) (value b) false nowhere
+  int_linked (operator.Quotient at) a b = int_two (λ v w. wrap (int_div (number v) (number w))) (value a) (value b) true at.now
+  int_linked (operator.Remainder at) a b = int_two (λ v w. wrap (int_rem (number v) (number w))) (value a) (value b) true at.now
+
   pub int_gives : (e : IntExpr) → Gives IntLeaf (value (int_view e))
   int_gives (NumberNode n) = (n, refl)
   int_gives (IntLocal slot) = (get_or s.words.numbers slot (pos 0), refl)
@@ -219,6 +230,7 @@ module _ (limits : Limits) (s : Memory) where
   int_gives (Product' p a q b) = int_two (λ v w. wrap (number v *ℤ number w)) (value (int_view a)) (value (int_view b)) false nowhere
   int_gives (Quotient' p a q b at) = int_two (λ v w. wrap (int_div (number v) (number w))) (value (int_view a)) (value (int_view b)) true at.now
   int_gives (Remainder' p a q b at) = int_two (λ v w. wrap (int_rem (number v) (number w))) (value (int_view a)) (value (int_view b)) true at.now
+  int_gives (Chain' p first q shape row) = int_links-hold (λ a. Gives IntLeaf (value a)) (λ a b op. int_linked op a b) row (int_view first) (int_gives first)
   int_gives (OfRange' m p r at) = of_range m at.now (value (range_view r)) (range_gives r)
   int_gives (OfDomain' m p d) = of_domain m (value (domain_view d))
   int_gives (Element' slot p t at) =

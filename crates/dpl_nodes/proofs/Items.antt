@@ -4,16 +4,18 @@ use Rattle.std.proofs.Common.{◌≡◌, refl}
 use Rattle.dpl_language.specs.Tree.{One}
 use Rattle.dpl_lowered.specs.Shapes.{as_expr, as_item}
 use Rattle.dpl_lowered.specs.LoweredExpressions.{Times}
-use Rattle.dpl_nodes.specs.declared.tree.IntExpr.{IntExpr, Number as NumberNode}
+use Rattle.dpl_nodes.specs.declared.tree.IntExpr.{IntExpr, Number as NumberNode, Chain'}
 use Rattle.dpl_nodes.specs.declared.tree.BoolExpr.{BoolExpr, Truth as TruthNode}
 use Rattle.dpl_nodes.specs.declared.tree.RangeExpr.{RangeExpr, Local as RangeLocal}
 use Rattle.dpl_nodes.specs.declared.tree.DomainExpr.{DomainExpr, Local as DomainLocal}
 use Rattle.dpl_nodes.specs.declared.tree.PromotedInt.{PromotedInt, Scalar' as IntScalar'}
 use Rattle.dpl_nodes.specs.declared.tree.PromotedTruth.{PromotedTruth, Scalar' as TruthScalar'}
 use Rattle.dpl_nodes.specs.Typed.{int_view, truth_view, range_view, range_item, domain_view, promoted_int, promoted_truth}
+use Rattle.dpl_nodes.proofs.Chains.{int_links-hold}
 
 pub int_view-item : (e : IntExpr) → One (int_view e) ≡ as_item (int_view e)
 int_view-item (NumberNode n) = refl
+int_view-item (Chain' p first q shape row) = int_links-hold (λ a. One a ≡ as_item a) (λ a b op. refl) row (int_view first) (int_view-item first)
 int_view-item _ = refl
 
 pub truth_view-item : (e : BoolExpr) → One (truth_view e) ≡ as_item (truth_view e)

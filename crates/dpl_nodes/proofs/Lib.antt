@@ -5,3 +5,4 @@ pub mod Evaluated
 pub mod Rows
 pub mod Unread
 pub mod Promotions
+pub mod Chains

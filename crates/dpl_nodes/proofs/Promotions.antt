@@ -9,14 +9,14 @@ use Rattle.dpl_language.specs.Values.{Index}
 use Rattle.dpl_language.specs.Phrases.{cell_read}
 use Rattle.dpl_language.specs.Environment.{Limits}
 use Rattle.dpl_language.specs.Expressions.{whole_in, value_of}
-use Rattle.dpl_lowered.specs.Shapes.{nowhere, two}
+use Rattle.dpl_lowered.specs.Shapes.{nowhere, two, grouped}
 use Rattle.dpl_lowered.specs.LoweredExpressions.{Times}
 use Rattle.dpl_memory.specs.Memory.{Variable, Memory, in_memory, array_at}
-use Rattle.dpl_nodes.specs.declared.tree.IntExpr.{IntExpr, Negative' as IntNegative', Sum' as IntSum', Difference' as IntDifference', Product' as IntProduct', Quotient' as IntQuotient', Remainder' as IntRemainder'}
+use Rattle.dpl_nodes.specs.declared.tree.IntExpr.{IntExpr, Negative' as IntNegative', Sum' as IntSum', Difference' as IntDifference', Product' as IntProduct', Quotient' as IntQuotient', Remainder' as IntRemainder', Chain' as IntChain', Row_of-IntLink, end_of-IntLink, more_of-IntLink}
 use Rattle.dpl_nodes.specs.declared.tree.BoolExpr.{BoolExpr, Not' as TruthNot', And' as TruthAnd', Or' as TruthOr', Same' as TruthSame', Differ' as TruthDiffer', Compare as TruthCompare}
 use Rattle.dpl_nodes.specs.declared.tree.PromotedInt.{PromotedInt, Scalar' as IntScalar', Element as IntElement, Negative', Sum', Difference', Product', Quotient', Remainder'}
 use Rattle.dpl_nodes.specs.declared.tree.PromotedTruth.{PromotedTruth, Scalar' as TruthScalar', Element as TruthElement, Not', And', Or', Same', Differ', Compare}
-use Rattle.dpl_nodes.specs.Typed.{int_view, truth_view, comparison_view, promoted_int, promoted_truth}
+use Rattle.dpl_nodes.specs.Typed.{int_view, int_links, int_infix, int_place, truth_view, comparison_view, promoted_int, promoted_truth}
 use Rattle.dpl_nodes.proofs.Unread.{cell_read-int, cell_read-truth}
 
 -- ---- no cell reads
@@ -71,14 +71,21 @@ module _ (limits : Limits) (s : Memory) where
   two-whole a b at op first second = rw (first, second) refl
 
   -- ---- without a whole array
-  pub int_view-whole : (e : IntExpr) → whole_in limits in_memory (int_view e) s ≡ None
-  int_view-whole (IntNegative' p e) = int_view-whole e
-  int_view-whole (IntSum' p a q b) = two-whole (int_view a) (int_view b) nowhere Add (int_view-whole a) (int_view-whole b)
-  int_view-whole (IntDifference' p a q b) = two-whole (int_view a) (int_view b) nowhere Subtract (int_view-whole a) (int_view-whole b)
-  int_view-whole (IntProduct' p a q b) = two-whole (int_view a) (int_view b) nowhere Multiply (int_view-whole a) (int_view-whole b)
-  int_view-whole (IntQuotient' p a q b at) = two-whole (int_view a) (int_view b) at.now Divide (int_view-whole a) (int_view-whole b)
-  int_view-whole (IntRemainder' p a q b at) = two-whole (int_view a) (int_view b) at.now Remainder (int_view-whole a) (int_view-whole b)
-  int_view-whole _ = refl
+  mutual
+    pub int_view-whole : (e : IntExpr) → whole_in limits in_memory (int_view e) s ≡ None
+    int_view-whole (IntNegative' p e) = int_view-whole e
+    int_view-whole (IntSum' p a q b) = two-whole (int_view a) (int_view b) nowhere Add (int_view-whole a) (int_view-whole b)
+    int_view-whole (IntDifference' p a q b) = two-whole (int_view a) (int_view b) nowhere Subtract (int_view-whole a) (int_view-whole b)
+    int_view-whole (IntProduct' p a q b) = two-whole (int_view a) (int_view b) nowhere Multiply (int_view-whole a) (int_view-whole b)
+    int_view-whole (IntQuotient' p a q b at) = two-whole (int_view a) (int_view b) at.now Divide (int_view-whole a) (int_view-whole b)
+    int_view-whole (IntRemainder' p a q b at) = two-whole (int_view a) (int_view b) at.now Remainder (int_view-whole a) (int_view-whole b)
+    int_view-whole (IntChain' p first q shape row) = int_links-whole row (int_view first) (int_view-whole first)
+    int_view-whole _ = refl
+
+    int_links-whole : {m : _} (row : Row_of-IntLink m) (a : ExprTree Variable) → whole_in limits in_memory a s ≡ None → whole_in limits in_memory (grouped a (int_links row)) s ≡ None
+    int_links-whole end_of-IntLink a h = h
+    int_links-whole (more_of-IntLink op p e row) a h =
+        int_links-whole row (two a (int_place op) (int_infix op) (int_view e)) (two-whole a (int_view e) (int_place op) (int_infix op) h (int_view-whole e))
 
   pub truth_view-whole : (e : BoolExpr) → whole_in limits in_memory (truth_view e) s ≡ None
   truth_view-whole (TruthNot' p e) = truth_view-whole e
@@ -89,14 +96,21 @@ module _ (limits : Limits) (s : Memory) where
   truth_view-whole (TruthCompare c a b) = two-whole (int_view a.now) (int_view b.now) nowhere (comparison_view c) (int_view-whole a.now) (int_view-whole b.now)
   truth_view-whole _ = refl
 
-  pub int_view-at : (e : IntExpr) (t : Index) → IsSameAt t (int_view e)
-  int_view-at (IntNegative' p e) t = prefixed-at t Minus (int_view e) (int_view-at e t)
-  int_view-at (IntSum' p a q b) t = two-at t (int_view a) (int_view b) nowhere Add (int_view-at a t) (int_view-at b t)
-  int_view-at (IntDifference' p a q b) t = two-at t (int_view a) (int_view b) nowhere Subtract (int_view-at a t) (int_view-at b t)
-  int_view-at (IntProduct' p a q b) t = two-at t (int_view a) (int_view b) nowhere Multiply (int_view-at a t) (int_view-at b t)
-  int_view-at (IntQuotient' p a q b at) t = two-at t (int_view a) (int_view b) at.now Divide (int_view-at a t) (int_view-at b t)
-  int_view-at (IntRemainder' p a q b at) t = two-at t (int_view a) (int_view b) at.now Remainder (int_view-at a t) (int_view-at b t)
-  int_view-at _ t = refl
+  mutual
+    pub int_view-at : (e : IntExpr) (t : Index) → IsSameAt t (int_view e)
+    int_view-at (IntNegative' p e) t = prefixed-at t Minus (int_view e) (int_view-at e t)
+    int_view-at (IntSum' p a q b) t = two-at t (int_view a) (int_view b) nowhere Add (int_view-at a t) (int_view-at b t)
+    int_view-at (IntDifference' p a q b) t = two-at t (int_view a) (int_view b) nowhere Subtract (int_view-at a t) (int_view-at b t)
+    int_view-at (IntProduct' p a q b) t = two-at t (int_view a) (int_view b) nowhere Multiply (int_view-at a t) (int_view-at b t)
+    int_view-at (IntQuotient' p a q b at) t = two-at t (int_view a) (int_view b) at.now Divide (int_view-at a t) (int_view-at b t)
+    int_view-at (IntRemainder' p a q b at) t = two-at t (int_view a) (int_view b) at.now Remainder (int_view-at a t) (int_view-at b t)
+    int_view-at (IntChain' p first q shape row) t = int_links-at row (int_view first) t (int_view-at first t)
+    int_view-at _ t = refl
+
+    int_links-at : {m : _} (row : Row_of-IntLink m) (a : ExprTree Variable) (t : Index) → IsSameAt t a → IsSameAt t (grouped a (int_links row))
+    int_links-at end_of-IntLink a t h = h
+    int_links-at (more_of-IntLink op p e row) a t h =
+        int_links-at row (two a (int_place op) (int_infix op) (int_view e)) t (two-at t a (int_view e) (int_place op) (int_infix op) h (int_view-at e t))
 
   pub truth_view-at : (e : BoolExpr) (t : Index) → IsSameAt t (truth_view e)
   truth_view-at (TruthNot' p e) t = prefixed-at t Not (truth_view e) (truth_view-at e t)

@@ -4,11 +4,12 @@ use Rattle.std.proofs.Common.{◌≡◌, Option, Some, None, refl}
 use Rattle.dpl_language.specs.Tree.{Placed}
 use Rattle.dpl_language.specs.Phrases.{bare_name, read_by, cell_read, item_read}
 use Rattle.dpl_memory.specs.Memory.{Variable}
-use Rattle.dpl_nodes.specs.declared.tree.IntExpr.{IntExpr, OfRange', OfDomain'}
+use Rattle.dpl_nodes.specs.declared.tree.IntExpr.{IntExpr, Chain', OfRange', OfDomain'}
 use Rattle.dpl_nodes.specs.declared.tree.BoolExpr.{BoolExpr, Contains, HasIndex}
 use Rattle.dpl_nodes.specs.declared.tree.RangeExpr.{RangeExpr, Local as RangeLocal, Between', Slice', Dimension'}
 use Rattle.dpl_nodes.specs.declared.tree.DomainExpr.{DomainExpr, Slice' as DomainSlice', Expanded'}
 use Rattle.dpl_nodes.specs.Typed.{int_view, truth_view, range_item, range_view, domain_view}
+use Rattle.dpl_nodes.proofs.Chains.{int_links-hold}
 
 read_by-none : (b : Option (Placed Variable)) → read_by b None ≡ None
 read_by-none None = refl
@@ -17,6 +18,7 @@ read_by-none (Some x) = refl
 pub cell_read-int : (e : IntExpr) → cell_read (int_view e) ≡ None
 cell_read-int (OfRange' m p r at) = read_by-none (bare_name (range_view r))
 cell_read-int (OfDomain' m p d) = read_by-none (bare_name (domain_view d))
+cell_read-int (Chain' p first q shape row) = int_links-hold (λ a. cell_read a ≡ None) (λ a b op. refl) row (int_view first) (cell_read-int first)
 cell_read-int _ = refl
 
 pub cell_read-truth : (e : BoolExpr) → cell_read (truth_view e) ≡ None

@@ -1,9 +1,9 @@
 -- The plain tree that a typed tree stands for.
 -- It is a lowered tree over slots: two operands to an operator, no brackets, and the places of faults alone.
-use Rattle.std.specs.Prelude.{ℕ, Option, Some, None}
+use Rattle.std.specs.Prelude.{ℕ, List, [], ◌∷◌, Option, Some, None}
 use Rattle.dpl_syntax.specs.declared.place.Place.{Place}
-use Rattle.dpl_language.specs.Tree.{Kind, IntKind, BoolKind, Minus, Not, Infix, Add, Subtract, Multiply, Divide, Remainder, Less, LessEqual, Greater, GreaterEqual, Equal, NotEqual, And, Or, Dots, Closed, HalfOpen, Counted, Word, Size, First, Last, Low, High, DomainOf, Op, Sum, Product, AllOf, AnyOf, BitAnd, BitOr, BitXor, Least, Greatest, ExprTree, Number, TruthWord, Named, Grouped, DomainLiteral, Prefixed, Reduced, Postfixed, ItemTree, One, RangeItem, Stride, NoStride, By, NoPosts, Post, Brackets, Dotted, MethodTree, Plainly, Dim, Contains, Expand, Items, FirstItem, NoItems, NextItem, Exprs, FirstExpr, NoExprs, NextExpr}
-use Rattle.dpl_lowered.specs.Shapes.{nowhere, kept, two}
+use Rattle.dpl_language.specs.Tree.{Kind, IntKind, BoolKind, Minus, Not, Infix, Add, Subtract, Multiply, Divide, Remainder, Less, LessEqual, Greater, GreaterEqual, Equal, NotEqual, And, Or, Dots, Closed, HalfOpen, Counted, Word, Size, First, Last, Low, High, DomainOf, Op, Sum, Product, AllOf, AnyOf, BitAnd, BitOr, BitXor, Least, Greatest, ExprTree, Number, TruthWord, Named, Grouped, DomainLiteral, Prefixed, Reduced, Postfixed, ItemTree, One, RangeItem, Stride, NoStride, By, Links, NoLinks, Link, NoPosts, Post, Brackets, Dotted, MethodTree, Plainly, Dim, Contains, Expand, Items, FirstItem, NoItems, NextItem, Exprs, FirstExpr, NoExprs, NextExpr}
+use Rattle.dpl_lowered.specs.Shapes.{nowhere, kept, two, grouped}
 use Rattle.dpl_lowered.specs.LoweredExpressions.{Times, EachTurn, each_turn, is_end}
 use Rattle.dpl_memory.specs.Memory.{DomainKind, TupleKind, ArrayKind, Variable, variable, int_leaf, truth_leaf, range_leaf}
 use Rattle.dpl_nodes.specs.declared.tree.Dots.{Dots as DotsNode}
@@ -14,7 +14,10 @@ use Rattle.dpl_nodes.specs.declared.tree.DomainMethod.{DomainMethod}
 use Rattle.dpl_nodes.specs.declared.tree.DomainMethod.TheVariants as of_domain
 use Rattle.dpl_nodes.specs.declared.tree.Comparison.{Comparison}
 use Rattle.dpl_nodes.specs.declared.tree.Comparison.TheVariants as comparison
-use Rattle.dpl_nodes.specs.declared.tree.IntExpr.{IntExpr, Number as NumberNode, Local as IntLocal, Negative', Sum', Difference', Product', Quotient', Remainder', OfRange', OfDomain', Element', Reduced' as IntReduced'}
+use Rattle.dpl_nodes.specs.declared.tree.IntOperator.{IntOperator}
+use Rattle.dpl_nodes.specs.declared.tree.IntOperator.TheVariants as operator
+use Rattle.dpl_nodes.specs.declared.tree.IntLink.{IntLink}
+use Rattle.dpl_nodes.specs.declared.tree.IntExpr.{IntExpr, Number as NumberNode, Local as IntLocal, Negative', Sum', Difference', Product', Quotient', Remainder', Chain', Row_of-IntLink, end_of-IntLink, more_of-IntLink, OfRange', OfDomain', Element', Reduced' as IntReduced'}
 use Rattle.dpl_nodes.specs.declared.tree.BoolExpr.{BoolExpr, Truth as TruthNode, Local as TruthLocal, Not', And', Or', Same', Differ', Compare as CompareNode, Contains as ContainsNode, HasIndex as HasIndexNode, Element as TruthElement, Reduced' as TruthReduced'}
 use Rattle.dpl_nodes.specs.declared.tree.RangeExpr.{RangeExpr, Local as RangeLocal, Between', Slice', Dimension'}
 use Rattle.dpl_nodes.specs.declared.tree.Stride.{Stride as StrideNode, Absent, By'}
@@ -121,6 +124,21 @@ abbrev pub fold_view : Fold → Op
 fold_view (fold.Ints f) = int_fold_view f
 fold_view (fold.Truths f) = truth_fold_view f
 
+-- an operator of a chain, and the place that is kept of it
+abbrev pub int_infix : IntOperator → Infix
+int_infix operator.Sum = Add
+int_infix operator.Difference = Subtract
+int_infix operator.Product = Multiply
+int_infix (operator.Quotient at) = Divide
+int_infix (operator.Remainder at) = Remainder
+
+abbrev pub int_place : IntOperator → Place
+int_place operator.Sum = nowhere
+int_place operator.Difference = nowhere
+int_place operator.Product = nowhere
+int_place (operator.Quotient at) = at.now
+int_place (operator.Remainder at) = at.now
+
 abbrev mutual
   pub int_view : IntExpr → ExprTree Variable
   int_view (NumberNode n) = Number nowhere n
@@ -131,10 +149,16 @@ abbrev mutual
   int_view (Product' p a q b) = two (int_view a) nowhere Multiply (int_view b)
   int_view (Quotient' p a q b at) = two (int_view a) at.now Divide (int_view b)
   int_view (Remainder' p a q b at) = two (int_view a) at.now Remainder (int_view b)
+  int_view (Chain' p first q shape row) = grouped (int_view first) (int_links row)
   int_view (OfRange' m p r at) = dotted (range_view r) (Plainly (kept (is_end (range_word m)) at.now) (range_word m))
   int_view (OfDomain' m p d) = dotted (domain_view d) (Plainly nowhere (domain_word m))
   int_view (Element' slot p t at) = in_square (array_named IntKind slot at.now) (index_items t)
   int_view (IntReduced' f p e at) = Reduced nowhere (int_fold_view f) at.now (promoted_int EachTurn e)
+
+  -- the further operands of a chain
+  pub int_links : {m : _} → Row_of-IntLink m → Links Variable
+  int_links end_of-IntLink = NoLinks
+  int_links (more_of-IntLink op p e row) = Link (int_place op) (int_infix op) (int_view e) (int_links row)
 
   -- a range as an item
   pub range_item : RangeExpr → ItemTree Variable
@@ -186,6 +210,11 @@ abbrev mutual
   promoted_int m (Products' p a q b) = two (promoted_int m a) nowhere Multiply (promoted_int m b)
   promoted_int m (Quotients' p a q b at) = two (promoted_int m a) at.now Divide (promoted_int m b)
   promoted_int m (Remainders' p a q b at) = two (promoted_int m a) at.now Remainder (promoted_int m b)
+
+-- the same for a list of links
+abbrev pub int_links_of : List IntLink → Links Variable
+int_links_of [] = NoLinks
+int_links_of (l ∷ ls) = Link (int_place l.op) (int_infix l.op) (int_view l.right.now) (int_links_of ls)
 
 -- the coordinates of an index, as arguments
 abbrev pub index_exprs : IndexExpr → Exprs Variable

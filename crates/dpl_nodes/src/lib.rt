@@ -20,6 +20,6 @@ pub use step::{
 };
 pub use stop::NoNode;
 pub use tree::{
-    BoolExpr, Comparison, DomainExpr, DomainMethod, Dots, IndexExpr, IntExpr, PromotedInt,
-    PromotedTruth, RangeExpr, RangeMethod, RangesExpr, Stride,
+    BoolExpr, Comparison, DomainExpr, DomainMethod, Dots, IndexExpr, IntExpr, IntLink, IntOperator,
+    PromotedInt, PromotedTruth, RangeExpr, RangeMethod, RangesExpr, Stride,
 };

@@ -66,6 +66,24 @@ impl DomainMethod {
     }
 }
 
+/// An operator between two ints, with the place where a division by zero is told.
+#[derive(Clone, Copy)]
+pub enum IntOperator<'t> {
+    Sum,
+    Difference,
+    Product,
+    Quotient(&'t Spot),
+    Remainder(&'t Spot),
+}
+
+/// A further operand of a chain of ints, behind its operator.
+#[cycle(typed)]
+#[derive(Clone, Copy)]
+pub struct IntLink<'t> {
+    pub op: IntOperator<'t>,
+    pub right: &'t IntExpr<'t>,
+}
+
 /// An expression that is an int.
 #[cycle(typed)]
 #[derive(Clone, Copy)]
@@ -80,6 +98,8 @@ pub enum IntExpr<'t> {
     /// With the place where a division by zero is told.
     Quotient(&'t IntExpr<'t>, &'t IntExpr<'t>, &'t Spot),
     Remainder(&'t IntExpr<'t>, &'t IntExpr<'t>, &'t Spot),
+    /// The first operand of a chain, and the others, from left to right.
+    Chain(&'t IntExpr<'t>, &'t [IntLink<'t>]),
     /// A method of a range, with the place where it is told that there is no end.
     OfRange(RangeMethod, &'t RangeExpr<'t>, &'t Spot),
     /// A method of a domain.

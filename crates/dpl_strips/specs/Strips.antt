@@ -3,14 +3,14 @@
 use Rattle.std.specs.Prelude.{◌≡◌, ◌≢◌, ◌<◌, ℕ, ◌==◌, if◌then◌else◌, ℤ, pos, ◌+ℤ◌, ◌-ℤ◌, ◌*ℤ◌, List, [], ◌∷◌, length, get_or, set, Some, None, Result, Ok, FitsSigned, Option, option_map, IfSome}
 use Rattle.std.specs.Int.{w64}
 use Rattle.dpl_array.specs.Elements.{Row, behind}
-use Rattle.dpl_language.specs.Tree.{Infix, Add, Subtract, Multiply}
+use Rattle.dpl_language.specs.Tree.{Infix, Add, Subtract, Multiply, ExprTree}
 use Rattle.dpl_language.specs.Arithmetic.{wrap}
 use Rattle.dpl_language.specs.Values.{Value, Int, Domain, Index, index_of, Fault}
 use Rattle.dpl_language.specs.Outcome.{with_ok}
 use Rattle.dpl_language.specs.Environment.{Limits}
 use Rattle.dpl_language.specs.Expressions.{value_of, values_of}
 use Rattle.dpl_language.specs.Loops.{bound_to}
-use Rattle.dpl_memory.specs.Memory.{Memory, array_at, held_at, no_tuple, in_memory}
+use Rattle.dpl_memory.specs.Memory.{Variable, Memory, array_at, held_at, no_tuple, in_memory}
 use Rattle.dpl_nodes.specs.declared.tree.IntExpr.{IntExpr}
 use Rattle.dpl_nodes.specs.declared.tree.IndexExpr.{IndexExpr}
 use Rattle.dpl_nodes.specs.declared.step.Names.{Names}
@@ -154,11 +154,14 @@ each_put (slot ∷ slots) (i ∷ t) words = each_put slots t (set words slot i)
 abbrev pub turn_numbers : Names → Row → Memory → ℕ → List ℤ
 turn_numbers names row s k = (bound_to in_memory (names_view names) (Domain []) (behind k row) s).words.numbers
 
--- an int goes so through the turns of a row's indices
-abbrev pub GoesAt : Limits → Names → List Written → Row → Memory → IntExpr → Pace → Type 0
-GoesAt limits names xs row s e pace =
+-- the value of a tree goes so through the turns of a row's indices; and an int does
+abbrev pub TreeGoesAt : Limits → Names → List Written → Row → Memory → ExprTree Variable → Pace → Type 0
+TreeGoesAt limits names xs row s e pace =
     (k : ℕ) → k < 64 → (u : Memory) → IsInTurn names xs (behind k row) s u
-    → value_of limits in_memory (int_view e) None u ≡ Ok (Int (paced row.step pace k))
+    → value_of limits in_memory e None u ≡ Ok (Int (paced row.step pace k))
+
+abbrev pub GoesAt : Limits → Names → List Written → Row → Memory → IntExpr → Pace → Type 0
+GoesAt limits names xs row s e pace = TreeGoesAt limits names xs row s (int_view e) pace
 
 -- the index that is found in a turn lies as far behind another as the turn behind the first
 abbrev pub GoesFrom : Limits → Names → List Written → Row → Memory → IndexExpr → Row → Type 0

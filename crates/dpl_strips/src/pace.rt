@@ -3,7 +3,11 @@
 
 ghost use Rattle.std.specs.Prelude.{◌≡◌, ◌∷◌, map, length, IfSome};
 ghost use Rattle.dpl_array.specs.Elements.{behind};
-ghost use Rattle.dpl_strips.specs.Strips.{FitsTurns, GoesAs, GoesIn, GoesAfter, each_put, turn_numbers, written, GoesAt};
+ghost use Rattle.dpl_language.specs.Tree.{ExprTree};
+ghost use Rattle.dpl_lowered.specs.Shapes.{two, grouped};
+ghost use Rattle.dpl_memory.specs.Memory.{Variable};
+ghost use Rattle.dpl_nodes.specs.Typed.{int_view, int_links_of, int_infix, int_place};
+ghost use Rattle.dpl_strips.specs.Strips.{FitsTurns, GoesAs, GoesIn, GoesAfter, each_put, turn_numbers, written, TreeGoesAt, GoesAt};
 ghost use Rattle.dpl_strips.specs.declared.apply.Wrapping.TheVariants.{Sum as SumOf, Difference as DifferenceOf};
 ghost use Rattle.dpl_strips.specs.declared.pace.Pace.TheVariants.{Steady as SteadyPace, Stepping as SteppingPace};
 
@@ -11,7 +15,7 @@ use crate::target::{Target, is_written};
 use dpl_arithmetic::number::{difference, sum};
 use dpl_frame::{Arrays, Frame};
 use dpl_loop::{Row, STRIP};
-use dpl_nodes::{IntExpr, Names};
+use dpl_nodes::{IntExpr, IntLink, IntOperator, Names};
 
 /// The int of each turn: the same in all turns of a strip; or this one in the first turn, and in each turn the row's step more than in the
 /// one before.
@@ -125,8 +129,53 @@ fn local<A: Arrays>(slot: usize, names: &Names<'_>, row: Row, frame: &Frame<A>) 
     }
 }
 
+// How a chain goes with an operand more, by how it goes before it.
+#[cycle(paces)]
+fn linked<A: Arrays>(
+    before: Pace,
+    link: &IntLink<'_>,
+    names: &Names<'_>,
+    targets: &[Target<'_>],
+    row: Row,
+    frame: &Frame<A>,
+) -> Option<Pace>
+    ensures { IfSome result (λ p. FitsTurns row.step p × ((a : ExprTree Variable)
+        → TreeGoesAt frame.now.limits names.now (map written targets.now) row frame.now.memory a before
+        → TreeGoesAt frame.now.limits names.now (map written targets.now) row frame.now.memory
+        (two a (int_place link.now.op) (int_infix link.now.op) (int_view link.now.right.now)) p)) }
+{
+    match link.op {
+        IntOperator::Sum => before.plus(pace_of(link.right, names, targets, row, frame)?, row),
+        IntOperator::Difference => {
+            before.minus(pace_of(link.right, names, targets, row, frame)?, row)
+        }
+        IntOperator::Product | IntOperator::Quotient(_) | IntOperator::Remainder(_) => None,
+    }
+}
+
+// How a chain goes: its operands are taken from left to right.
+#[cycle(paces)]
+fn chained<A: Arrays>(
+    first: &IntExpr<'_>,
+    links: &[IntLink<'_>],
+    names: &Names<'_>,
+    targets: &[Target<'_>],
+    row: Row,
+    frame: &Frame<A>,
+) -> Option<Pace>
+    ensures { IfSome result (λ p. FitsTurns row.step p × TreeGoesAt frame.now.limits names.now (map written targets.now) row frame.now.memory
+        (grouped (int_view first.now) (int_links_of links.now)) p) }
+{
+    let mut pace = pace_of(first, names, targets, row, frame)?;
+    for link in links {
+        pace = linked(pace, link, names, targets, row, frame)?;
+    }
+    Some(pace)
+}
+
 /// How an int goes through the turns of a row's indices, as far as that is told by its text and by what the frame holds. An int in which an
 /// element, a quotient or more than sums and differences stand has no pace, nor has one in which a slot stands that the turns may write.
+#[cycle(paces)]
 pub(crate) fn pace_of<A: Arrays>(
     e: &IntExpr<'_>,
     names: &Names<'_>,
@@ -147,6 +196,7 @@ pub(crate) fn pace_of<A: Arrays>(
             let left = pace_of(a, names, targets, row, frame)?;
             left.minus(pace_of(b, names, targets, row, frame)?, row)
         }
+        IntExpr::Chain(first, links) => chained(first, links, names, targets, row, frame),
         _ => None,
     }
 }

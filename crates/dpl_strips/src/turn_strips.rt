@@ -5,12 +5,12 @@
 ghost use Rattle.std.specs.Prelude.{◌≡◌, ◌<◌, ℕ, pos, ◌+ℤ◌, ◌*ℤ◌, IsTrue, None, map, get_or, length, IfSome};
 ghost use Rattle.dpl_syntax.specs.declared.place.Place.{Place};
 ghost use Rattle.dpl_language.specs.Arithmetic.{wrap};
-ghost use Rattle.dpl_language.specs.Tree.{Kind, IntKind, Minus, Divide, Remainder, Prefixed};
+ghost use Rattle.dpl_language.specs.Tree.{Kind, IntKind, Minus, Divide, Remainder, Prefixed, ExprTree};
 ghost use Rattle.dpl_language.specs.Expressions.{value_of};
-ghost use Rattle.dpl_lowered.specs.Shapes.{nowhere, two};
-ghost use Rattle.dpl_memory.specs.Memory.{in_memory};
+ghost use Rattle.dpl_lowered.specs.Shapes.{nowhere, two, grouped};
+ghost use Rattle.dpl_memory.specs.Memory.{Variable, in_memory};
 ghost use Rattle.dpl_nodes.specs.declared.tree.IndexExpr.{Tuple as TupleIndex};
-ghost use Rattle.dpl_nodes.specs.Typed.{array_named, in_square, index_items, int_view};
+ghost use Rattle.dpl_nodes.specs.Typed.{array_named, in_square, index_items, int_view, int_links_of, int_infix, int_place};
 ghost use Rattle.dpl_strips.specs.Strips.{paced, FitsTurns, written, IsInOwnTurn, HoldsInTurns, RightHolds, GoesFrom, infix_of};
 ghost use Rattle.dpl_strips.specs.Truths.{FoundInTurns};
 
@@ -23,7 +23,7 @@ use dpl_arithmetic::number::sum;
 use dpl_domain::Index;
 use dpl_frame::{Arrays, Frame};
 use dpl_loop::{Row, STRIP, Strip};
-use dpl_nodes::{IndexExpr, IntExpr, Names};
+use dpl_nodes::{IndexExpr, IntExpr, IntLink, IntOperator, Names};
 
 // Ints that follow one another by the step of a strip's row.
 fn count(strip: &mut Strip, from: i64)
@@ -242,11 +242,27 @@ fn negatives<A: Arrays>(
     negate(strip);
 }
 
-// What an operator makes of two ints, of which the right one has a strip of its own.
+// The ints of the first of several operands, no more than are wanted.
 #[cycle(turns)]
-#[inline(never)]
-fn of_two<A: Arrays>(
-    op: Wrapping,
+fn operand<A: Arrays>(
+    e: &IntExpr<'_>,
+    names: &Names<'_>,
+    targets: &[Target<'_>],
+    frame: &Frame<A>,
+    strip: &mut Strip,
+)
+    ensures row { strip.new.row ≡ strip.old.row }
+    ensures values { HoldsInTurns names.now (map written targets.now)
+        (λ u. value_of frame.now.limits in_memory (int_view e.now) None u) frame.now.memory strip.new }
+{
+    let wanted = strip.size;
+    turn_ints(e, names, targets, frame, strip);
+    strip.size = strip.size.min(wanted);
+}
+
+// The ints of a dividend, where the divisor is an int that is the same in all turns and isn't 0.
+#[cycle(turns)]
+fn dividends<A: Arrays>(
     a: &IntExpr<'_>,
     b: &IntExpr<'_>,
     names: &Names<'_>,
@@ -255,25 +271,158 @@ fn of_two<A: Arrays>(
     strip: &mut Strip,
 )
     ensures row { strip.new.row ≡ strip.old.row }
-    ensures values { HoldsInTurns names.now (map written targets.now) (λ u. value_of frame.now.limits in_memory
-        (two (int_view a.now) nowhere (infix_of op) (int_view b.now)) None u) frame.now.memory strip.new }
+    ensures values { HoldsInTurns names.now (map written targets.now)
+        (λ u. value_of frame.now.limits in_memory (int_view a.now) None u) frame.now.memory strip.new }
 {
-    let wanted = strip.size;
+    match steady(b, names, targets, strip.row, frame) {
+        Some(n) if n != 0 => operand(a, names, targets, frame, strip),
+        _ => strip.size = 0,
+    }
+}
+
+// What an operator makes of the ints so far and of a further operand, which has a strip of its own.
+#[cycle(turns)]
+#[inline(never)]
+fn join_strip<A: Arrays>(
+    op: Wrapping,
+    b: &IntExpr<'_>,
+    names: &Names<'_>,
+    targets: &[Target<'_>],
+    frame: &Frame<A>,
+    strip: &mut Strip,
+)
+    ensures row { strip.new.row ≡ strip.old.row }
+    ensures values { (a : ExprTree Variable) → HoldsInTurns names.now (map written targets.now)
+        (λ u. value_of frame.now.limits in_memory a None u) frame.now.memory strip.old
+        → HoldsInTurns names.now (map written targets.now) (λ u. value_of frame.now.limits in_memory
+        (two a nowhere (infix_of op) (int_view b.now)) None u) frame.now.memory strip.new }
+{
     let mut right = Strip::none(strip.row);
-    turn_ints(a, names, targets, frame, strip);
-    right.size = strip.size.min(wanted);
+    right.size = strip.size;
     turn_ints(b, names, targets, frame, &mut right);
     let size = right.size.min(STRIP);
     apply(op, strip, Right::Words(&right.words[..size]));
 }
 
-// What an operator makes of two ints.
+// What an operator makes of the ints so far and of a further operand.
+#[cycle(turns)]
+fn join<A: Arrays>(
+    op: Wrapping,
+    b: &IntExpr<'_>,
+    names: &Names<'_>,
+    targets: &[Target<'_>],
+    frame: &Frame<A>,
+    strip: &mut Strip,
+)
+    ensures row { strip.new.row ≡ strip.old.row }
+    ensures values { (a : ExprTree Variable) → HoldsInTurns names.now (map written targets.now)
+        (λ u. value_of frame.now.limits in_memory a None u) frame.now.memory strip.old
+        → HoldsInTurns names.now (map written targets.now) (λ u. value_of frame.now.limits in_memory
+        (two a nowhere (infix_of op) (int_view b.now)) None u) frame.now.memory strip.new }
+{
+    let Some(right) = right_of(b, names, &*targets, strip.row, strip.size, &*frame) else {
+        join_strip(op, b, names, targets, frame, strip);
+        return;
+    };
+    apply(op, strip, right);
+}
+
+// Quotients of the ints so far, by an int that is the same in all turns and isn't 0.
+fn quotients<A: Arrays>(
+    b: &IntExpr<'_>,
+    names: &Names<'_>,
+    targets: &[Target<'_>],
+    frame: &Frame<A>,
+    strip: &mut Strip,
+)
+    ensures row { strip.new.row ≡ strip.old.row }
+    ensures values { (a : ExprTree Variable) (at : Place) → HoldsInTurns names.now (map written targets.now)
+        (λ u. value_of frame.now.limits in_memory a None u) frame.now.memory strip.old
+        → HoldsInTurns names.now (map written targets.now) (λ u. value_of frame.now.limits in_memory
+        (two a at Divide (int_view b.now)) None u) frame.now.memory strip.new }
+{
+    match steady(b, names, targets, strip.row, frame) {
+        Some(n) if n != 0 => divide(strip, n),
+        _ => strip.size = 0,
+    }
+}
+
+// Remainders, by such an int.
+fn remainders<A: Arrays>(
+    b: &IntExpr<'_>,
+    names: &Names<'_>,
+    targets: &[Target<'_>],
+    frame: &Frame<A>,
+    strip: &mut Strip,
+)
+    ensures row { strip.new.row ≡ strip.old.row }
+    ensures values { (a : ExprTree Variable) (at : Place) → HoldsInTurns names.now (map written targets.now)
+        (λ u. value_of frame.now.limits in_memory a None u) frame.now.memory strip.old
+        → HoldsInTurns names.now (map written targets.now) (λ u. value_of frame.now.limits in_memory
+        (two a at Remainder (int_view b.now)) None u) frame.now.memory strip.new }
+{
+    match steady(b, names, targets, strip.row, frame) {
+        Some(n) if n != 0 => leave(strip, n),
+        _ => strip.size = 0,
+    }
+}
+
+// Whether all quotients and remainders in a chain are by such ints.
+fn divide_alike<A: Arrays>(
+    links: &[IntLink<'_>],
+    names: &Names<'_>,
+    targets: &[Target<'_>],
+    row: Row,
+    frame: &Frame<A>,
+) -> bool {
+    for link in links {
+        if let IntOperator::Quotient(_) | IntOperator::Remainder(_) = link.op {
+            match steady(link.right, names, targets, row, frame) {
+                Some(n) if n != 0 => {}
+                _ => return false,
+            }
+        }
+    }
+    true
+}
+
+// A further operand of a chain, behind the ints so far.
+#[cycle(turns)]
+fn linked<A: Arrays>(
+    link: &IntLink<'_>,
+    names: &Names<'_>,
+    targets: &[Target<'_>],
+    frame: &Frame<A>,
+    strip: &mut Strip,
+)
+    ensures row { strip.new.row ≡ strip.old.row }
+    ensures values { (a : ExprTree Variable) → HoldsInTurns names.now (map written targets.now)
+        (λ u. value_of frame.now.limits in_memory a None u) frame.now.memory strip.old
+        → HoldsInTurns names.now (map written targets.now) (λ u. value_of frame.now.limits in_memory
+        (two a (int_place link.now.op) (int_infix link.now.op) (int_view link.now.right.now)) None u) frame.now.memory strip.new }
+{
+    match link.op {
+        IntOperator::Sum => join(Wrapping::Sum, link.right, names, targets, frame, strip),
+        IntOperator::Difference => join(
+            Wrapping::Difference,
+            link.right,
+            names,
+            targets,
+            frame,
+            strip,
+        ),
+        IntOperator::Product => join(Wrapping::Product, link.right, names, targets, frame, strip),
+        IntOperator::Quotient(_) => quotients(link.right, names, targets, frame, strip),
+        IntOperator::Remainder(_) => remainders(link.right, names, targets, frame, strip),
+    }
+}
+
+// A chain: its operands go from left to right, and the ints so far are in the strip.
 #[cycle(turns)]
 #[inline(never)]
-fn both<A: Arrays>(
-    op: Wrapping,
-    a: &IntExpr<'_>,
-    b: &IntExpr<'_>,
+fn chained<A: Arrays>(
+    first: &IntExpr<'_>,
+    links: &[IntLink<'_>],
     names: &Names<'_>,
     targets: &[Target<'_>],
     frame: &Frame<A>,
@@ -281,61 +430,15 @@ fn both<A: Arrays>(
 )
     ensures row { strip.new.row ≡ strip.old.row }
     ensures values { HoldsInTurns names.now (map written targets.now) (λ u. value_of frame.now.limits in_memory
-        (two (int_view a.now) nowhere (infix_of op) (int_view b.now)) None u) frame.now.memory strip.new }
+        (grouped (int_view first.now) (int_links_of links.now)) None u) frame.now.memory strip.new }
 {
-    let Some(right) = right_of(b, names, &*targets, strip.row, strip.size, &*frame) else {
-        of_two(op, a, b, names, targets, frame, strip);
+    if !divide_alike(links, names, targets, strip.row, frame) {
+        strip.size = 0;
         return;
-    };
-    turn_ints(a, names, targets, frame, strip);
-    apply(op, strip, right);
-}
-
-// Quotients, by an int that is the same in all turns and isn't 0.
-#[cycle(turns)]
-#[inline(never)]
-fn quotients<A: Arrays>(
-    a: &IntExpr<'_>,
-    b: &IntExpr<'_>,
-    names: &Names<'_>,
-    targets: &[Target<'_>],
-    frame: &Frame<A>,
-    strip: &mut Strip,
-)
-    ensures row { strip.new.row ≡ strip.old.row }
-    ensures values { (at : Place) → HoldsInTurns names.now (map written targets.now) (λ u. value_of frame.now.limits in_memory
-        (two (int_view a.now) at Divide (int_view b.now)) None u) frame.now.memory strip.new }
-{
-    match steady(b, names, targets, strip.row, frame) {
-        Some(n) if n != 0 => {
-            turn_ints(a, names, targets, frame, strip);
-            divide(strip, n);
-        }
-        _ => strip.size = 0,
     }
-}
-
-// Remainders, by such an int.
-#[cycle(turns)]
-#[inline(never)]
-fn remainders<A: Arrays>(
-    a: &IntExpr<'_>,
-    b: &IntExpr<'_>,
-    names: &Names<'_>,
-    targets: &[Target<'_>],
-    frame: &Frame<A>,
-    strip: &mut Strip,
-)
-    ensures row { strip.new.row ≡ strip.old.row }
-    ensures values { (at : Place) → HoldsInTurns names.now (map written targets.now) (λ u. value_of frame.now.limits in_memory
-        (two (int_view a.now) at Remainder (int_view b.now)) None u) frame.now.memory strip.new }
-{
-    match steady(b, names, targets, strip.row, frame) {
-        Some(n) if n != 0 => {
-            turn_ints(a, names, targets, frame, strip);
-            leave(strip, n);
-        }
-        _ => strip.size = 0,
+    operand(first, names, targets, frame, strip);
+    for link in links {
+        linked(link, names, targets, frame, strip);
     }
 }
 
@@ -358,11 +461,27 @@ pub fn turn_ints<A: Arrays>(
         IntExpr::Number(_) | IntExpr::Local(_) => leaf(e, names, targets, frame, strip),
         IntExpr::Element(slot, index, _) => element(*slot, index, names, targets, frame, strip),
         IntExpr::Negative(e) => negatives(e, names, targets, frame, strip),
-        IntExpr::Sum(a, b) => both(Wrapping::Sum, a, b, names, targets, frame, strip),
-        IntExpr::Difference(a, b) => both(Wrapping::Difference, a, b, names, targets, frame, strip),
-        IntExpr::Product(a, b) => both(Wrapping::Product, a, b, names, targets, frame, strip),
-        IntExpr::Quotient(a, b, _) => quotients(a, b, names, targets, frame, strip),
-        IntExpr::Remainder(a, b, _) => remainders(a, b, names, targets, frame, strip),
+        IntExpr::Sum(a, b) => {
+            operand(a, names, targets, frame, strip);
+            join(Wrapping::Sum, b, names, targets, frame, strip);
+        }
+        IntExpr::Difference(a, b) => {
+            operand(a, names, targets, frame, strip);
+            join(Wrapping::Difference, b, names, targets, frame, strip);
+        }
+        IntExpr::Product(a, b) => {
+            operand(a, names, targets, frame, strip);
+            join(Wrapping::Product, b, names, targets, frame, strip);
+        }
+        IntExpr::Quotient(a, b, _) => {
+            dividends(a, b, names, targets, frame, strip);
+            quotients(b, names, targets, frame, strip);
+        }
+        IntExpr::Remainder(a, b, _) => {
+            dividends(a, b, names, targets, frame, strip);
+            remainders(b, names, targets, frame, strip);
+        }
+        IntExpr::Chain(first, links) => chained(first, links, names, targets, frame, strip),
         _ => strip.size = 0,
     }
 }

@@ -1,6 +1,6 @@
 -- The turns of a typed forall, and of typed assignments to whole arrays.
 use Rattle.std.proofs.Common.{Some, None, ◌≡◌, ℕ, List, [], refl, subst}
-use Rattle.dpl_language.specs.Tree.{Op, Stmts}
+use Rattle.dpl_language.specs.Tree.{Op, ExprTree, Stmts}
 use Rattle.dpl_language.specs.Values.{Domain, Index}
 use Rattle.dpl_language.specs.Environment.{Limits}
 use Rattle.dpl_language.specs.Loops.{bound_to}
@@ -8,13 +8,14 @@ use Rattle.dpl_language.specs.Statements.{exec_all}
 use Rattle.dpl_memory.specs.Memory.{Variable, in_memory}
 use Rattle.dpl_nodes.specs.declared.step.Names.{Names}
 use Rattle.dpl_nodes.specs.declared.step.Names.TheVariants.{Int as IntName, Tuple as TupleName, Each}
-use Rattle.dpl_nodes.specs.declared.tree.IntExpr.{IntExpr, Number, Local as IntLocal, Negative' as IntNegative', Sum' as IntSum', Difference' as IntDifference', Product' as IntProduct', Quotient' as IntQuotient', Remainder' as IntRemainder'}
+use Rattle.dpl_nodes.specs.declared.tree.IntExpr.{IntExpr, Number, Local as IntLocal, Negative' as IntNegative', Sum' as IntSum', Difference' as IntDifference', Product' as IntProduct', Quotient' as IntQuotient', Remainder' as IntRemainder', Chain' as IntChain', Row_of-IntLink, end_of-IntLink, more_of-IntLink}
 use Rattle.dpl_nodes.specs.declared.tree.BoolExpr.{BoolExpr, Truth as TruthNode, Local as TruthLocal, Not' as TruthNot', And' as TruthAnd', Or' as TruthOr', Same' as TruthSame', Differ' as TruthDiffer', Compare as TruthCompare}
 use Rattle.dpl_nodes.specs.declared.tree.PromotedInt.{PromotedInt, Scalar' as IntScalar', Element as IntsElement, Negative' as Negatives', Sum' as Sums', Difference' as Differences', Product' as Products', Quotient' as Quotients', Remainder' as Remainders'}
 use Rattle.dpl_nodes.specs.declared.tree.PromotedTruth.{PromotedTruth, Scalar' as TruthScalar', Element as TruthsElement, Not' as Nots', And' as Ands', Or' as Ors', Same' as Sames', Differ' as Differs', Compare as Compares}
-use Rattle.dpl_nodes.specs.Typed.{int_view, truth_view, promoted_int, promoted_truth}
+use Rattle.dpl_nodes.specs.Typed.{int_view, int_links, int_infix, int_place, truth_view, promoted_int, promoted_truth}
 use Rattle.dpl_nodes.specs.Steps.{names_view}
 use Rattle.dpl_lowered.specs.LoweredExpressions.{Times}
+use Rattle.dpl_lowered.specs.Shapes.{two, grouped}
 use Rattle.dpl_agreement.specs.Scopes.{fits_expr}
 use Rattle.dpl_apart.specs.Memories.{MayBeApart, Changes}
 use Rattle.dpl_turns.specs.Wholes.{whole_changes, ReadsOwn}
@@ -37,16 +38,25 @@ names-apart limits rank names written reduced body keeps =
 -- ---- right sides
 module _ (h : Changes) (own : OwnNames) (t i : Index) where
   -- what is evaluated once fits at an index too, since its names are plain
-  pub int_view-fits : (e : IntExpr) → fits_expr (turn_scoping h own t) None (int_view e) tt → fits_expr (turn_scoping h own t) (Some i) (int_view e) tt
-  int_view-fits (Number n) fits = tt
-  int_view-fits (IntLocal slot) fits = (fits, tt)
-  int_view-fits (IntNegative' p e) fits = int_view-fits e fits
-  int_view-fits (IntSum' p a q b) fits = (int_view-fits a fits.0, (int_view-fits b fits.1.0, tt))
-  int_view-fits (IntDifference' p a q b) fits = (int_view-fits a fits.0, (int_view-fits b fits.1.0, tt))
-  int_view-fits (IntProduct' p a q b) fits = (int_view-fits a fits.0, (int_view-fits b fits.1.0, tt))
-  int_view-fits (IntQuotient' p a q b at) fits = (int_view-fits a fits.0, (int_view-fits b fits.1.0, tt))
-  int_view-fits (IntRemainder' p a q b at) fits = (int_view-fits a fits.0, (int_view-fits b fits.1.0, tt))
-  int_view-fits _ fits = fits
+  mutual
+    pub int_view-fits : (e : IntExpr) → fits_expr (turn_scoping h own t) None (int_view e) tt → fits_expr (turn_scoping h own t) (Some i) (int_view e) tt
+    int_view-fits (Number n) fits = tt
+    int_view-fits (IntLocal slot) fits = (fits, tt)
+    int_view-fits (IntNegative' p e) fits = int_view-fits e fits
+    int_view-fits (IntSum' p a q b) fits = (int_view-fits a fits.0, (int_view-fits b fits.1.0, tt))
+    int_view-fits (IntDifference' p a q b) fits = (int_view-fits a fits.0, (int_view-fits b fits.1.0, tt))
+    int_view-fits (IntProduct' p a q b) fits = (int_view-fits a fits.0, (int_view-fits b fits.1.0, tt))
+    int_view-fits (IntQuotient' p a q b at) fits = (int_view-fits a fits.0, (int_view-fits b fits.1.0, tt))
+    int_view-fits (IntRemainder' p a q b at) fits = (int_view-fits a fits.0, (int_view-fits b fits.1.0, tt))
+    int_view-fits (IntChain' p first q shape row) fits = int_links-fit row (int_view first) (int_view-fits first) fits
+    int_view-fits _ fits = fits
+
+    -- and so does a chain, where what came so far does
+    int_links-fit : {m : _} (row : Row_of-IntLink m) (a : ExprTree Variable) → (fits_expr (turn_scoping h own t) None a tt → fits_expr (turn_scoping h own t) (Some i) a tt)
+        → fits_expr (turn_scoping h own t) None (grouped a (int_links row)) tt → fits_expr (turn_scoping h own t) (Some i) (grouped a (int_links row)) tt
+    int_links-fit end_of-IntLink a so_far fits = so_far fits
+    int_links-fit (more_of-IntLink op p e row) a so_far fits =
+        int_links-fit row (two a (int_place op) (int_infix op) (int_view e)) (λ both. (so_far both.0, (int_view-fits e both.1.0, tt))) fits
 
   pub truth_view-fits : (e : BoolExpr) → fits_expr (turn_scoping h own t) None (truth_view e) tt → fits_expr (turn_scoping h own t) (Some i) (truth_view e) tt
   truth_view-fits (TruthNode b) fits = tt

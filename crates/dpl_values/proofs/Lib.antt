@@ -6,3 +6,4 @@ pub mod First
 pub mod Telling
 pub mod Worked
 pub mod Listed
+pub mod Chained

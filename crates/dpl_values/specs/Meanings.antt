@@ -3,17 +3,18 @@
 use Rattle.std.specs.Prelude.{ℕ, ℤ, List, None, Some, Result, Ok}
 use Rattle.dpl_syntax.specs.declared.place.Place.{Place}
 use Rattle.dpl_sets.specs.TextRanges.{TextRange}
-use Rattle.dpl_language.specs.Tree.{Plainly, Contains, FirstExpr, NoExprs}
-use Rattle.dpl_language.specs.Values.{Value, Domain, Index, Fault, all_ranges, index_of}
+use Rattle.dpl_language.specs.Tree.{Plainly, Contains, FirstExpr, NoExprs, NoLinks, Link}
+use Rattle.dpl_language.specs.Values.{Value, Int, Domain, Index, Fault, all_ranges, index_of}
 use Rattle.dpl_language.specs.Ranges.{sized, all_sliced}
 use Rattle.dpl_language.specs.Outcome.{with_ok}
-use Rattle.dpl_language.specs.Expressions.{value_of, item_of, items_of, values_of, stridden}
-use Rattle.dpl_lowered.specs.Shapes.{nowhere, kept}
+use Rattle.dpl_language.specs.Expressions.{value_of, chained, item_of, items_of, values_of, stridden}
+use Rattle.dpl_lowered.specs.Shapes.{nowhere, kept, grouped}
 use Rattle.dpl_lowered.specs.LoweredExpressions.{EachTurn, is_end}
 use Rattle.dpl_memory.specs.Memory.{array_at, held_at, in_memory}
 use Rattle.dpl_nodes.specs.declared.tree.RangeMethod.{RangeMethod}
 use Rattle.dpl_nodes.specs.declared.tree.DomainMethod.{DomainMethod}
 use Rattle.dpl_nodes.specs.declared.tree.IntExpr.{IntExpr}
+use Rattle.dpl_nodes.specs.declared.tree.IntLink.{IntLink}
 use Rattle.dpl_nodes.specs.declared.tree.BoolExpr.{BoolExpr}
 use Rattle.dpl_nodes.specs.declared.tree.RangeExpr.{RangeExpr}
 use Rattle.dpl_nodes.specs.declared.tree.RangesExpr.{RangesExpr}
@@ -22,7 +23,7 @@ use Rattle.dpl_nodes.specs.declared.tree.DomainExpr.{DomainExpr}
 use Rattle.dpl_nodes.specs.declared.tree.IndexExpr.{IndexExpr}
 use Rattle.dpl_nodes.specs.declared.tree.PromotedInt.{PromotedInt}
 use Rattle.dpl_nodes.specs.declared.tree.PromotedTruth.{PromotedTruth}
-use Rattle.dpl_nodes.specs.Typed.{range_word, domain_word, int_view, truth_view, range_item, range_view, stride_view, dotted, ranges_items, index_items, index_exprs, domain_view, promoted_int, promoted_truth}
+use Rattle.dpl_nodes.specs.Typed.{range_word, domain_word, int_view, int_links_of, int_infix, int_place, truth_view, range_item, range_view, stride_view, dotted, ranges_items, index_items, index_exprs, domain_view, promoted_int, promoted_truth}
 use Rattle.dpl_frame.specs.Frames.{Framed}
 use Rattle.dpl_values.specs.Elements.{word_found}
 
@@ -30,6 +31,13 @@ module _ (f : Framed) where
   -- an int and a truth value
   abbrev pub int_in : IntExpr → Result Value Fault
   int_in e = value_of f.limits in_memory (int_view e) None f.memory
+
+  -- a further operand of a chain, behind the int so far; and a chain
+  abbrev pub linked_in : ℤ → IntLink → Result Value Fault
+  linked_in n l = chained f.limits in_memory (Link (int_place l.op) (int_infix l.op) (int_view l.right.now) NoLinks) None f.memory (Int n)
+
+  abbrev pub chain_in : IntExpr → List IntLink → Result Value Fault
+  chain_in first links = value_of f.limits in_memory (grouped (int_view first) (int_links_of links)) None f.memory
 
   abbrev pub truth_in : BoolExpr → Result Value Fault
   truth_in e = value_of f.limits in_memory (truth_view e) None f.memory

@@ -1,8 +1,9 @@
 -- The reductions in an expression, each by the slot of its array; and that a gate may refuse an entry of one of them.
 -- An entry of a reduction is that of the owner of an index of its array, with the place of the index.
-use Rattle.std.specs.Prelude.{ℕ, Option, Some, None}
+use Rattle.std.specs.Prelude.{ℕ, List, [], ◌∷◌, Option, Some, None}
 use Rattle.dpl_memory.specs.Memory.{array_at}
-use Rattle.dpl_nodes.specs.declared.tree.IntExpr.{IntExpr, Number, Local as IntLocal, Negative', Sum', Difference', Product', Quotient', Remainder', OfRange', OfDomain', Element', Reduced' as IntReduced'}
+use Rattle.dpl_nodes.specs.declared.tree.IntLink.{IntLink}
+use Rattle.dpl_nodes.specs.declared.tree.IntExpr.{IntExpr, Chain', Row_of-IntLink, end_of-IntLink, more_of-IntLink, Number, Local as IntLocal, Negative', Sum', Difference', Product', Quotient', Remainder', OfRange', OfDomain', Element', Reduced' as IntReduced'}
 use Rattle.dpl_nodes.specs.declared.tree.BoolExpr.{BoolExpr, Truth, Local as TruthLocal, Not', And', Or', Same', Differ', Compare, Contains, HasIndex, Element as TruthElement, Reduced' as TruthReduced'}
 use Rattle.dpl_nodes.specs.declared.tree.RangeExpr.{RangeExpr, Local as RangeLocal, Between', Slice', Dimension'}
 use Rattle.dpl_nodes.specs.declared.tree.Stride.{Stride, Absent, By'}
@@ -31,10 +32,15 @@ abbrev mutual
   EachInInt (Product' p a q b) Holds = EachInInt a Holds × EachInInt b Holds
   EachInInt (Quotient' p a q b at) Holds = EachInInt a Holds × EachInInt b Holds
   EachInInt (Remainder' p a q b at) Holds = EachInInt a Holds × EachInInt b Holds
+  EachInInt (Chain' p first q shape row) Holds = EachInInt first Holds × EachInLinks row Holds
   EachInInt (OfRange' m p r at) Holds = EachInRange r Holds
   EachInInt (OfDomain' m p d) Holds = EachInDomain d Holds
   EachInInt (Element' slot p t at) Holds = EachInIndex t Holds
   EachInInt (IntReduced' f p e at) Holds = OfSlot (first_of_ints e) Holds × EachInInts e Holds
+
+  pub EachInLinks : {m : _} → Row_of-IntLink m → (ℕ → Type 0) → Type 0
+  EachInLinks end_of-IntLink Holds = Unit {0}
+  EachInLinks (more_of-IntLink op p e row) Holds = EachInInt e Holds × EachInLinks row Holds
 
   pub EachInRange : RangeExpr → (ℕ → Type 0) → Type 0
   EachInRange (RangeLocal slot) Holds = Unit {0}
@@ -99,6 +105,14 @@ abbrev mutual
   EachInTruths (Sames' p a q b) Holds = EachInTruths a Holds × EachInTruths b Holds
   EachInTruths (Differs' p a q b) Holds = EachInTruths a Holds × EachInTruths b Holds
   EachInTruths (Compares c a b) Holds = EachInInts a.now Holds × EachInInts b.now Holds
+
+-- of a chain, by the list of its links
+abbrev pub EachInLinksOf : List IntLink → (ℕ → Type 0) → Type 0
+EachInLinksOf [] Holds = Unit {0}
+EachInLinksOf (l ∷ ls) Holds = EachInInt l.right.now Holds × EachInLinksOf ls Holds
+
+abbrev pub EachInChain : IntExpr → List IntLink → (ℕ → Type 0) → Type 0
+EachInChain first links Holds = EachInInt first Holds × EachInLinksOf links Holds
 
 -- of the two methods that are truth values, by their parts
 abbrev pub EachInContained : RangeExpr → IntExpr → (ℕ → Type 0) → Type 0

@@ -5,12 +5,12 @@
 ghost use Rattle.std.specs.Prelude.{◌≡◌, true, false, Ok, IfSome};
 ghost use Rattle.dpl_syntax.specs.declared.place.Place.{Place};
 ghost use Rattle.dpl_language.specs.Values.{Int, Truth as TruthValue};
-ghost use Rattle.dpl_values.specs.Meanings.{int_in, truth_in, element_in};
+ghost use Rattle.dpl_values.specs.Meanings.{int_in, linked_in, chain_in, truth_in, element_in};
 
 use crate::comparison::holds;
 use dpl_arithmetic::number::{difference, negative, product, quotient, remainder, sum};
 use dpl_frame::{Arrays, Frame};
-use dpl_nodes::{BoolExpr, IndexExpr, IntExpr};
+use dpl_nodes::{BoolExpr, IndexExpr, IntExpr, IntLink, IntOperator};
 
 /// The value of an int, where it is found directly.
 #[inline(always)]
@@ -85,6 +85,47 @@ fn element<A: Arrays>(slot: usize, t: &IndexExpr<'_>, frame: &Frame<A>, found: &
     word_of(element, found)
 }
 
+// A further operand of a chain, behind the int so far.
+#[cycle(direct)]
+#[inline(always)]
+fn linked<A: Arrays>(left: i64, link: &IntLink<'_>, frame: &Frame<A>, found: &mut bool) -> i64
+    ensures before { found.new ≡ true → found.old ≡ true }
+    ensures value { found.new ≡ true → linked_in frame.now left link.now ≡ Ok (Int result) }
+{
+    let right = number(link.right, frame, found);
+    match link.op {
+        IntOperator::Sum => sum(left, right),
+        IntOperator::Difference => difference(left, right),
+        IntOperator::Product => product(left, right),
+        IntOperator::Quotient(_) => match right {
+            0 => lost(found),
+            _ => quotient(left, right),
+        },
+        IntOperator::Remainder(_) => match right {
+            0 => lost(found),
+            _ => remainder(left, right),
+        },
+    }
+}
+
+// A chain: its operands go from left to right, and each operator takes the int so far.
+#[cycle(direct)]
+fn chained<A: Arrays>(
+    first: &IntExpr<'_>,
+    links: &[IntLink<'_>],
+    frame: &Frame<A>,
+    found: &mut bool,
+) -> i64
+    ensures before { found.new ≡ true → found.old ≡ true }
+    ensures value { found.new ≡ true → chain_in frame.now first.now links.now ≡ Ok (Int result) }
+{
+    let mut value = number(first, frame, found);
+    for link in links {
+        value = linked(value, link, frame, found);
+    }
+    value
+}
+
 // The value of an int that is more than a leaf.
 #[cycle(direct)]
 fn walked_number<A: Arrays>(e: &IntExpr<'_>, frame: &Frame<A>, found: &mut bool) -> i64
@@ -119,6 +160,7 @@ fn walked_number<A: Arrays>(e: &IntExpr<'_>, frame: &Frame<A>, found: &mut bool)
                 right => remainder(left, right),
             }
         }
+        IntExpr::Chain(first, links) => chained(first, links, frame, found),
         IntExpr::Element(slot, t, _) => element(*slot, t, frame, found),
         _ => lost(found),
     }

@@ -5,9 +5,9 @@ ghost use Rattle.std.specs.Prelude.{None, Ok};
 ghost use Rattle.dpl_language.specs.Values.{Int, Truth as TruthValue, Domain as DomainValue};
 ghost use Rattle.dpl_frame.specs.Faults.{Tells, as_range};
 ghost use Rattle.dpl_values.specs.Bounds.{bounds_of};
-ghost use Rattle.dpl_values.specs.Reductions.{MayRefuseReduction, EachInInt, EachInTruth, EachInContained, EachInHasIndex};
+ghost use Rattle.dpl_values.specs.Reductions.{MayRefuseReduction, EachInInt, EachInChain, EachInTruth, EachInContained, EachInHasIndex};
 ghost use Rattle.dpl_values.specs.Reductions.{EachInRange, EachInStride, EachInRanges, EachInIndex, EachInDomain};
-ghost use Rattle.dpl_values.specs.Meanings.{int_in, truth_in, contained_in, has_index_in, range_in, strided_in, domain_in, index_in, element_in, literal_in, sliced_in, range_method_in, domain_method_in};
+ghost use Rattle.dpl_values.specs.Meanings.{int_in, linked_in, chain_in, truth_in, contained_in, has_index_in, range_in, strided_in, domain_in, index_in, element_in, literal_in, sliced_in, range_method_in, domain_method_in};
 
 use crate::comparison::holds;
 use crate::domain::{domain_method, found, sized, small};
@@ -19,8 +19,8 @@ use dpl_arithmetic::number::{difference, negative, product, quotient, remainder,
 use dpl_domain::Index;
 use dpl_frame::{Alarm, DomainWord, FaultCode, Frame, RangeWord, Truth, Turn};
 use dpl_nodes::{
-    BoolExpr, DomainExpr, DomainMethod, IndexExpr, IntExpr, RangeExpr, RangeMethod, RangesExpr,
-    Spot, Stride,
+    BoolExpr, DomainExpr, DomainMethod, IndexExpr, IntExpr, IntLink, IntOperator, RangeExpr,
+    RangeMethod, RangesExpr, Spot, Stride,
 };
 
 // An operand: a leaf at once, and else by a walk.
@@ -119,11 +119,67 @@ pub(crate) fn int_value<G: Team>(
             }
             Ok(remainder(left, right))
         }
+        IntExpr::Chain(first, links) => chained(first, links, frame, gate, turn),
         IntExpr::OfRange(method, r, at) => of_range(*method, r, at, frame, gate, turn),
         IntExpr::OfDomain(method, d) => of_domain(*method, d, frame, gate, turn),
         IntExpr::Element(slot, t, at) => element(*slot, t, at, frame, gate, turn),
         IntExpr::Reduced(fold, e, at) => reduced_int(*fold, e, at, frame, gate, turn),
     }
+}
+
+// A further operand of a chain, behind what came so far.
+#[cycle(walk)]
+#[inline(always)]
+fn linked<G: Team>(
+    left: i64,
+    link: &IntLink<'_>,
+    frame: &Frame<G::Kept>,
+    gate: &G,
+    turn: &mut Turn,
+) -> Result<i64, Alarm>
+    requires ready { G.is_ready gate.now }
+    ensures { Tells (MayRefuseReduction (G.may_refuse gate.now) frame.now (EachInInt link.now.right.now)) Int turn.new result
+        (linked_in frame.now left link.now) }
+{
+    let right = operand(link.right, frame, gate, turn)?;
+    match link.op {
+        IntOperator::Sum => Ok(sum(left, right)),
+        IntOperator::Difference => Ok(difference(left, right)),
+        IntOperator::Product => Ok(product(left, right)),
+        IntOperator::Quotient(at) => {
+            if right == 0 {
+                return Err(Alarm::new(FaultCode::ZeroDivisor, *at, turn));
+            }
+            Ok(quotient(left, right))
+        }
+        IntOperator::Remainder(at) => {
+            if right == 0 {
+                return Err(Alarm::new(FaultCode::ZeroDivisor, *at, turn));
+            }
+            Ok(remainder(left, right))
+        }
+    }
+}
+
+// A chain: its operands go from left to right, and each operator takes what came so far.
+#[cycle(walk)]
+#[inline(never)]
+fn chained<G: Team>(
+    first: &IntExpr<'_>,
+    links: &[IntLink<'_>],
+    frame: &Frame<G::Kept>,
+    gate: &G,
+    turn: &mut Turn,
+) -> Result<i64, Alarm>
+    requires ready { G.is_ready gate.now }
+    ensures { Tells (MayRefuseReduction (G.may_refuse gate.now) frame.now (EachInChain first.now links.now)) Int turn.new result
+        (chain_in frame.now first.now links.now) }
+{
+    let mut value = operand(first, frame, gate, turn)?;
+    for link in links {
+        value = linked(value, link, frame, gate, turn)?;
+    }
+    Ok(value)
 }
 
 // Methods are functions of their own, so that a walk over numbers alone has no place for ranges and domains in its frame.

@@ -1,6 +1,6 @@
 -- What stands behind a range or a domain is by its value, and a scalar has at an index the value that it has without one;
 -- a reduction is the fold of the items at all indices. All else the prover finds by itself.
-use Rattle.std.proofs.Common.{◌≡◌, ℕ, ⊎_elim, rules, true, false, None, Some, Ok, Err, refl, sym, subst, ap, ◌∙◌, w64, to_z, of_z, FitsSigned}
+use Rattle.std.proofs.Common.{◌≡◌, ◌+◌, ℕ, ⊎_elim, rules, true, false, None, Some, Ok, Err, drop, refl, sym, subst, ap, ◌∙◌, w64, to_z, of_z, FitsSigned}
 use Rattle.std.proofs.lemmas.Int.{to_z-of_z}
 use Rattle.std.proofs.lemmas.Result.{err_from_is_err_and}
 use Rattle.std.specs.Option.{option_map}
@@ -9,11 +9,11 @@ use Rattle.dpl_language.specs.Values.{Index, Int, Domain, number, fault, PastLim
 use Rattle.dpl_language.specs.Ranges.{expanded}
 use Rattle.dpl_language.specs.Outcome.{with_ok}
 use Rattle.dpl_language.specs.Expressions.{value_of, item_of, reduction, fold_over}
-use Rattle.dpl_lowered.specs.Shapes.{nowhere, kept}
+use Rattle.dpl_lowered.specs.Shapes.{nowhere, kept, grouped}
 use Rattle.dpl_lowered.specs.LoweredExpressions.{EachTurn, is_end}
 use Rattle.dpl_memory.specs.Memory.{array_at, in_memory}
 use Rattle.dpl_nodes.specs.declared.tree.IntExpr.{IntExpr}
-use Rattle.dpl_nodes.specs.Typed.{range_word as method_word, domain_word, int_view, range_item, ranges_items, domain_view, promoted_int, int_fold_view}
+use Rattle.dpl_nodes.specs.Typed.{range_word as method_word, domain_word, int_view, int_links_of, int_infix, int_place, range_item, ranges_items, domain_view, promoted_int, int_fold_view}
 use Rattle.dpl_nodes.proofs.Promotions.{int_view-at}
 use Rattle.dpl_frame.specs.Frames.{owned_by}
 use Rattle.dpl_frame.specs.Faults.{Tells, as_range}
@@ -24,7 +24,9 @@ use Rattle.dpl_loop.proofs.Folding.{with_ok-ends, tells-as}
 use Rattle.dpl_values.specs.Elements.{within_at}
 use Rattle.dpl_values.specs.Meanings.{int_in}
 use Rattle.dpl_values.specs.Reducing.{first_of_ints}
-use Rattle.dpl_values.specs.Reductions.{MayRefuseReduction, OfSlot, EachInInt, EachInRange, EachInRanges, EachInDomain, EachInInts}
+use Rattle.dpl_values.specs.Reductions.{MayRefuseReduction, OfSlot, EachInInt, EachInChain, EachInRange, EachInRanges, EachInDomain, EachInInts}
+use Rattle.dpl_nodes.proofs.Chains.{int_view-chain, int_links-from}
+use Rattle.dpl_values.proofs.Chained.{chain-ends, link-ends, each-at, each-chain}
 use Rattle.dpl_values.proofs.First.{ints_whole}
 use Rattle.dpl_values.proofs.Folds.{reduction-within}
 use Rattle.dpl_values.proofs.Telling.{told, refused-within}
@@ -189,3 +191,42 @@ reduction::reduced_int_here-returns g t c =
     ∙ ap (λ r. with_ok r (λ v. fold_over op value c.array_domain-domain.result)) c.in_ok-within_turns.ensures
     ∙ ap (fold_over op value) c.array_domain-domain.ensures)
     (c.folded_ints.ensures value (λ i before after r post. tells-as _ Int after.now (Unit {0}) r _ _ (λ m. tt) refl post.1) (λ i strip post. post.1))
+
+-- ---- chains
+pub expression::chained-returns-in_err-value : goal.expression::chained-returns-in_err-value
+expression::chained-returns-in_err-value g t c =
+    let first = c.args.first.now in
+    let links = c.args.links.now in
+    let wider = refused-within (g.G.Gate.may_refuse c.args.gate.now) c.args.frame.now in
+    let p = err_from_is_err_and c.from_residual.result c.from_residual.ensures.1 in
+    rw (p.1, p.2)
+    (chain-ends c.args.frame.now.limits None c.args.frame.now.memory Int _ _ (wider (EachInInt first) (EachInChain first links) (λ Holds all. all.0)) c.operand.new.turn c.in_err-value.field-0.0
+    (int_view first) (int_links_of links) c.in_err-value.ensures)
+
+pub expression::chained-returns-in_err-value-2 : goal.expression::chained-returns-in_err-value-2
+expression::chained-returns-in_err-value-2 g t c =
+    let first = c.args.first.now in
+    let links = c.args.links.now in
+    let k = c.loop-link.link-index in
+    let l = c.link-item.result in
+    let may = λ (each : (ℕ → Type 0) → Type 0). MayRefuseReduction (g.G.Gate.may_refuse c.args.gate.now) c.args.frame.now each in
+    let wider = refused-within (g.G.Gate.may_refuse c.args.gate.now) c.args.frame.now in
+    let p = err_from_is_err_and c.from_residual-in_err-value-2.result c.from_residual-in_err-value-2.ensures.1 in
+    rw (p.1, p.2)
+    (link-ends c.args.frame.now.limits None c.args.frame.now.memory Int (may (EachInInt l.right.now)) (may (EachInChain first links))
+    (wider (EachInInt l.right.now) (EachInChain first links) (λ Holds all. each-at links k l c.loop-link-test.true c.link-item.is Holds all.1))
+    c.linked.new.turn c.in_err-value-2.field-0.0 (grouped (int_view first) (int_links_of links)) (int_place l.op) (int_infix l.op) (int_view l.right.now)
+    (int_links_of (drop k links)) (int_links_of (drop (k + 1) links)) _ (int_links-from links k l c.loop-link-test.true c.link-item.is) c.loop-link.invariant c.in_err-value-2.ensures)
+
+pub expression::int_value-returns-in-Chain : goal.expression::int_value-returns-in-Chain
+expression::int_value-returns-in-Chain g t c =
+    let first = c.in-Chain.first in
+    let links = c.in-Chain.links in
+    let limits = c.args.frame.now.limits in
+    let w = c.args.frame.now.memory in
+    let wider = refused-within (g.G.Gate.may_refuse c.args.gate.now) c.args.frame.now in
+    tells-as _ Int c.chained.new.turn _ c.chained.result _ _
+    (wider (EachInChain first.now links.now) (EachInInt c.args.e.now)
+    (λ Holds all. subst (λ (T : Type 0). T) (each-chain first links Holds) (subst (λ (e : IntExpr). EachInInt e Holds) c.in-Chain.is all)))
+    (ap (λ e. value_of limits in_memory (int_view e) None w) c.in-Chain.is ∙ ap (λ v. value_of limits in_memory v None w) (int_view-chain first links))
+    c.chained.ensures

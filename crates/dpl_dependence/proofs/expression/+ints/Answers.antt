@@ -1,5 +1,5 @@
 -- Each form of an expression, by its parts.
-use Rattle.std.proofs.Common.{refl, sym, subst}
+use Rattle.std.proofs.Common.{None, refl, sym, subst, ap, ◌∙◌}
 use Rattle.dpl_lowered.specs.LoweredExpressions.{EachTurn}
 use Rattle.dpl_nodes.specs.declared.tree.IntExpr.{IntExpr}
 use Rattle.dpl_nodes.specs.declared.tree.PromotedInt.{PromotedInt}
@@ -8,11 +8,12 @@ use Rattle.dpl_nodes.specs.declared.tree.RangesExpr.{RangesExpr}
 use Rattle.dpl_nodes.specs.declared.tree.Stride.{Stride}
 use Rattle.dpl_nodes.specs.declared.tree.IndexExpr.{IndexExpr}
 use Rattle.dpl_nodes.specs.declared.tree.DomainExpr.{DomainExpr}
-use Rattle.dpl_nodes.specs.Typed.{int_view, range_item, stride_view, ranges_items, index_items, domain_view, promoted_int}
+use Rattle.dpl_nodes.specs.Typed.{int_view, int_links_of, range_item, stride_view, ranges_items, index_items, domain_view, promoted_int}
+use Rattle.dpl_nodes.proofs.Chains.{int_view-chain}
 use Rattle.dpl_turns.proofs.Typed.{int_view-fits}
 use Rattle.dpl_dependence.specs.declared.turn.TurnRules.{TurnRules}
 use Rattle.dpl_dependence.specs.Turns.{own_in, changes_by, MayEvaluate, MayEvaluateEach, MayEvaluateItem, MayEvaluateItems, MayStride}
-use Rattle.dpl_dependence.proofs.Expressions.{range-fits, range-base_fits, domain-base_fits}
+use Rattle.dpl_dependence.proofs.Expressions.{grouped-fits, links-next, links-end, range-fits, range-base_fits, domain-base_fits}
 use Rattle.dpl_dependence.proofs.expression.+ints.Goals as goal
 
 abbrev OfInt : TurnRules → IntExpr → Type 0
@@ -53,6 +54,21 @@ may_int-returns-then-may_int-4 t c h = subst (OfInt c.args.rules.now) (sym c.in-
 
 pub may_int-returns-then-may_int-5 : goal.may_int-returns-then-may_int-5
 may_int-returns-then-may_int-5 t c h = subst (OfInt c.args.rules.now) (sym c.in-Remainder.is) (λ i. (c.may_int-in-Remainder.ensures c.if-may_int-5.true i, (c.may_int-then-may_int-5.ensures h i, tt)))
+
+pub may_int-returns-then-may_int-6 : goal.may_int-returns-then-may_int-6
+may_int-returns-then-may_int-6 t c h =
+    let first = c.in-Chain.first in
+    let links = c.in-Chain.links in
+    subst (MayEvaluate c.args.rules.now) (sym (ap int_view c.in-Chain.is ∙ int_view-chain first links))
+    (λ i. grouped-fits (changes_by c.args.rules.now) (own_in c.args.rules.now) i None (int_view first.now) (int_links_of links.now) (c.may_int-in-Chain.ensures c.if-may_int-6.true i) (c.may_links.ensures h i))
+
+pub may_links-loop-link-preserved : goal.may_links-loop-link-preserved
+may_links-loop-link-preserved t c all =
+    c.loop-link.invariant
+    (links-next c.args.rules.now c.args.links.now c.loop-link.link-index c.link-item.result c.loop-link-test.true c.link-item.is (c.may_int.ensures c.if-not-may_int.false) all)
+
+pub may_links-returns : goal.may_links-returns
+may_links-returns t c h = c.loop-link.invariant (links-end c.args.rules.now c.args.links.now c.loop-link.link-index c.loop-link-test.false)
 
 pub may_int-returns-in-OfRange : goal.may_int-returns-in-OfRange
 may_int-returns-in-OfRange t c h = subst (OfInt c.args.rules.now) (sym c.in-OfRange.is) (λ i. (range-fits (changes_by c.args.rules.now) (own_in c.args.rules.now) i c.in-OfRange.r.now (c.may_range.ensures h i), (tt, tt)))
