@@ -55,6 +55,7 @@ use dpl_tree::{
     Arena, Chain, Expr, Exprs, Item, Items, Link, Method, Name, NextExpr, NextItem, Post, Range,
     Stride,
 };
+use dpl_typed::flat::flat;
 use dpl_typed::leaves::{number, truth_word};
 use dpl_typed::name::named;
 use dpl_typed::verdict::mistyped;
@@ -268,7 +269,7 @@ fn chain<'t>(
         return Err(AllocError);
     };
     tell_inner(deeds.as_slice(), start, linked.promoted, first);
-    Ok(linked.found)
+    flat(arena, linked.found)
 }
 
 // The further operands of a chain, from what stands before them.

@@ -2,6 +2,7 @@
 // Where the rules give a type there is a node; the parts of a form are seen by their types, and its node is made of theirs.
 #![tactic(auto)]
 
+pub mod flat;
 pub mod found;
 pub mod leaves;
 pub mod name;

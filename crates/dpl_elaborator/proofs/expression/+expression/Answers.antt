@@ -16,17 +16,17 @@ use Rattle.dpl_rules.specs.Breaches.{least_from}
 use Rattle.dpl_rules.specs.Deeds.{expr_deeds, links_deeds, inner_reductions}
 use Rattle.dpl_rules.specs.Expressions.{type_of, chain_type, expr_breaches, chain_breaches}
 use Rattle.dpl_rules.specs.Sights.{Scopes}
-use Rattle.dpl_lowered.specs.Shapes.{as_items}
+use Rattle.dpl_lowered.specs.Shapes.{as_items, grouped}
 use Rattle.dpl_lowered.specs.LoweredExpressions.{Times, Once}
 use Rattle.dpl_memory.specs.Memory.{Variable}
 use Rattle.dpl_typed.specs.declared.typed.Typed.{Typed}
 use Rattle.dpl_typed.specs.Leaves.{leaf_in, IsFound}
-use Rattle.dpl_typed.specs.Lowered.{leaves_of, item_leaves, items_leaves, exprs_leaves}
+use Rattle.dpl_typed.specs.Lowered.{leaves_of, item_leaves, links_leaves, items_leaves, exprs_leaves}
 use Rattle.dpl_typed.specs.Typed.{types_of, part_view}
 use Rattle.dpl_typed.specs.Stands.{StandsFor, StandsForItem, AreItems, AreArguments}
 use Rattle.dpl_typed.specs.Told.{Tells}
 use Rattle.dpl_typed.specs.Where.{WhereSimple, WhereSimpleItem, WhereSimplePost, WhereSimpleMethod, WhereSimpleItems}
-use Rattle.dpl_typed.proofs.Standing.{if_ok, if_both, stands-item, stands-expr}
+use Rattle.dpl_typed.proofs.Standing.{if_ok, if_both, on_any, stands-item, stands-expr}
 use Rattle.dpl_nodes.specs.Typed.{dotted}
 use Rattle.dpl_deeds.specs.View.{deed_view}
 use Rattle.dpl_deeds.proofs.Steps.{added_then}
@@ -144,12 +144,14 @@ chain-returns-clause-told t c =
     let inner : c.tell_inner.new.first ≡ least_from c.links.new.first (inner_reductions (between c.len-start.result linked.promoted after)) =
     subst (λ ds. c.tell_inner.new.first ≡ least_from c.links.new.first (inner_reductions (between c.len-start.result linked.promoted (map deed_view ds)))) c.as_slice.ensures.value
     c.tell_inner.ensures in
-    subst (λ x. Tells (type_of ss x) (expr_breaches ss x) linked.found c.args.first.now c.tell_inner.new.first) (sym (chain_view_fields c.args.chain.now)) (
-      told.0 ∙ ap (λ t. chain_type ss t ls) typed,
+    if_ok c.flat.result
+    (λ r same. subst (λ x. Tells (type_of ss x) (expr_breaches ss x) r c.args.first.now c.tell_inner.new.first) (sym (chain_view_fields c.args.chain.now)) (
+      same ∙ told.0 ∙ ap (λ t. chain_type ss t ls) typed,
       chain-told ss e ls before after c.len-start.result linked.promoted c.args.first.now c.expr.new.first c.links.new.first c.tell_inner.new.first
           (counted ∙ sym (length-map c.args.deeds.now.items deed_view)) reaches c.in-Ok.ensures.told.1
           (told.1 ∙ ap (λ t. least_from c.expr.new.first (chain_breaches ss t ls)) typed) inner,
-    )
+    ))
+    c.flat.ensures.typed
 
 pub chain-returns-clause-node : goal.chain-returns-clause-node
 chain-returns-clause-node t c =
@@ -157,18 +159,21 @@ chain-returns-clause-node t c =
     let v = out-Chain c.args.chain.now in
     let e = expr_view v.first.now in
     let ls = links_of v.links.now in
-    let r = c.in-Ok-links.linked.found in
-    subst (NodeOf ss r) (sym (chain_view_fields c.args.chain.now))
-    (λ s n. chain-whole ss r e ls s.2 (c.in-Ok-links.ensures.node (λ m. leaves_of ss m e) (c.in-Ok.ensures.node s.0 n.1) s.1 n.2))
+    if_ok c.flat.result
+    (λ r stands. subst (NodeOf ss r) (sym (chain_view_fields c.args.chain.now))
+    (λ s n. chain-whole ss r e ls s.2
+    (stands (λ m. grouped (leaves_of ss m e) (links_leaves ss m ls)) (c.in-Ok-links.ensures.node (λ m. leaves_of ss m e) (c.in-Ok.ensures.node s.0 n.1) s.1 n.2))))
+    c.flat.ensures.node
 
 pub chain-returns-clause-deeds : goal.chain-returns-clause-deeds
 chain-returns-clause-deeds t c =
     let ss = c.args.scopes.now in
     let v = out-Chain c.args.chain.now in
     let before = map deed_view c.args.deeds.now.items in
+    on_any c.flat.result (
     c.in-Ok-links.ensures.deeds
     ∙ added_then before (map deed_view c.expr.new.deeds.items) (expr_deeds ss (expr_view v.first.now)) (links_deeds ss (links_of v.links.now)) c.in-Ok.ensures.deeds
-    ∙ ap (λ x. before ++ expr_deeds ss x) (sym (chain_view_fields c.args.chain.now))
+    ∙ ap (λ x. before ++ expr_deeds ss x) (sym (chain_view_fields c.args.chain.now)))
 
 pub links-loop-next-init : goal.links-loop-next-init
 links-loop-next-init t c =
