@@ -11,6 +11,7 @@ use crate::end::{Refusal, TaskEnd};
 use crate::tasks::Tasks;
 use dpl_cell::{Board, Seat};
 use dpl_loop::Gate;
+use dpl_threads::start;
 use std::sync::Wait;
 use std::thread::{self, Promise, Scope, Threads};
 
@@ -107,7 +108,7 @@ fn start_all<'s, E, T: Tasks + Sync, G: Gate + Sync, R: Threads + Sync>(
         ensures { Ran site.entry.now.board.now (T.alone site.entry.now.tasks.now)
             (G.may_refuse site.entry.now.gate.now) site.entry.now.tries number result.0 result.1 }
     { run_one(site, number, seat, frame) };
-    let Ok(handle) = scope.spawn_with(promise, task) else {
+    let Ok(handle) = start(scope, promise, task) else {
         return Err(Refusal::Thread);
     };
     let below = start_all(rt, scope, site, seats, frames, gathering);

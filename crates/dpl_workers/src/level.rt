@@ -17,6 +17,7 @@ use dpl_domain::Domain;
 use dpl_frame::{Frame, Shares};
 use dpl_loop::{Gate, RunStop, Turns};
 use dpl_map::Map;
+use dpl_threads::start;
 use std::snapshot::Snapshot;
 use std::sync::Wait;
 use std::thread::{self, Promise, Scope, Threads};
@@ -135,7 +136,7 @@ fn start_all<'s, E, T: Turns + Sync, G: Gate + Sync, R: Threads + Sync>(
             (named_turn (T.turn site.entry.now.turns.now frame.entry.limits))
             (indices_of part.entry.now site.entry.now.whole.now site.entry.now.map.now locale) frame.entry.memory result }
     { work(site, locale, part, frame) };
-    let Ok(handle) = scope.spawn_with(promise, task) else {
+    let Ok(handle) = start(scope, promise, task) else {
         return Err(RunStop::Thread);
     };
     let below = start_all(rt, scope, site, jobs, done);
