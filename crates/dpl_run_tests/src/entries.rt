@@ -15,6 +15,9 @@ pub(crate) const ENTRIES: &str = "\
 123 <- 1 1 10 0 0~ <- const D = {1..3} dmapped new blockDist(boundingBox={1..3}); const E = {1..3} dmapped new cyclicDist(startIdx=0); var A: [D] int; var B: [E] int; forall i in D { B[i] = A[i]; A[i] = 1; } writeln(A, B);\n\
 123 <- 2 2 20 0 0~ <- const D = {1..3} dmapped new blockDist(boundingBox={1..3}); const E = {1..3} dmapped new cyclicDist(startIdx=0); var A: [D] int; var B: [E] int; forall i in D { if i > 9 { for j in 1..2 do B[i] = 1; } else A[i] = 2; } writeln(A, B);\n\
 123 <- 0 0 03 3 3~ <- const D = {1..3} dmapped new blockDist(boundingBox={1..3}); const E = {1..3} dmapped new cyclicDist(startIdx=0); var A: [D] int; var B: [E] int; forall i in D { var x = 0; if i > 9 then x += 1; else B[i] = 3; while x > 0 { A[i] = 1; } } writeln(A, B);\n\
+# Blocks that go round, so that a locale has several.\n\
+0011223300112233 <- 136~ <- const D = {1..16} dmapped new blockCycDist(startIdx=1, blocksize=2); var A: [D] int; forall i in D do A[i] = i; writeln(+ reduce A);\n\
+001122330/001122330 <- 45~ <- const D = {1..9} dmapped new blockCycDist(startIdx=1, blocksize=2); var A: [D] int; forall i in 1..9 do A[i] = i; writeln(+ reduce (A + 0));\n\
 # Where none is written, the map of the name from which the loop's domain is derived; else all turns are of locale 0.\n\
 011223 <- 27~ <- const D = {1..8} dmapped new blockDist(boundingBox={1..8}); var s: int; forall i in D[2..7] with (+ reduce s) do s += i; writeln(s);\n\
 0123 <- 4~ <- const D = {1..4} dmapped new cyclicDist(startIdx=1); var A: [D] int; var s: int; forall i in A.domain with (+ reduce s) do s += 1; writeln(s);\n\

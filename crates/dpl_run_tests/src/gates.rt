@@ -150,7 +150,7 @@ fn rows_of<R: Abort + Threads + Wait + Sync>(
 
 #[test]
 fn entries(rt: HostRuntime) {
-    assert_eq!(rt; rows_of(&rt, rt.alloc(), ENTRIES, Maps::AsIs), 28);
+    assert_eq!(rt; rows_of(&rt, rt.alloc(), ENTRIES, Maps::AsIs), 30);
     assert_eq!(rt; rows_of(&rt, rt.alloc(), STRIPS, Maps::AsIs), 3);
 }
 
@@ -161,7 +161,7 @@ fn roots(rt: HostRuntime) {
     assert_eq!(rt; rows_of(&rt, rt.alloc(), CYCLES, Maps::Cyclic), 4);
 }
 
-// How many entries a program asks for, and what it writes. Where the gate is open the turns of the first five are made at once;
+// How many entries a program asks for, and what it writes. Where the gate is open the turns of the first six are made at once;
 // a gate that counts sees each turn all the same. The others have no loop that a worker enters.
 const COUNTS: &str = "\
 40 <- 80~ <- var A: [1..40] int; forall i in 1..40 do A[i] = i * 2; writeln(A[40]);\n\
@@ -169,6 +169,7 @@ const COUNTS: &str = "\
 40 <- 11~ <- var A: [1..40] int = 5; A = A * 2 + 1; writeln(A[40]);\n\
 40 <- 200~ <- var A: [1..40] int = 5; writeln(+ reduce A);\n\
 80 <- 80~ <- const D = {1..2, 1..40} dmapped new blockDist(boundingBox={1..2, 1..40}); var A: [D] int; forall (i, j) in D do A[i, j] = i * j; writeln(A[2, 40]);\n\
+32 <- 136~ <- const D = {1..16} dmapped new blockCycDist(startIdx=1, blocksize=2); var A: [D] int; forall i in D do A[i] = i; writeln(+ reduce A);\n\
 0 <- 2~ <- var x = 1; x = x + 1; writeln(x);\n\
 0 <- 5~ <- var A: [1..3] int; A[2] = 5; writeln(A[2]);\n\
 0 <- 7~ <- var A: [1..40] int = 7; writeln(A[40]);\n\
@@ -212,7 +213,7 @@ fn gates_that_count(rt: HostRuntime) {
         }
         rows = rows.saturating_add(1);
     }
-    assert_eq!(rt; rows, 9);
+    assert_eq!(rt; rows, 10);
 }
 
 // Programs in which the workers 0 and 1 of four make two turns each, or more, of one loop, or fold two items each of one reduction. The last

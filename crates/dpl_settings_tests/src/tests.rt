@@ -1,8 +1,10 @@
 // Command lines through `settings`, a row each: what is asked for, or the status and the first line of what is told.
 // What stands before the first bar is wanted; behind it stand the words, with bars between them.
 
-use dpl_settings::{LineFault, Settings, WrongValue, line_status, settings};
+use dpl_settings::{LineFault, Settings, WrongValue, line_status, settings, tell_line};
 use std::alloc::{AllocError, Global};
+use std::fmt::Display;
+use std::io::{self, ErrorKind};
 use std::test::Fail;
 
 // The file, the sets, the budget, the locales, their grids, the maps, and whether to dump.
@@ -194,5 +196,61 @@ fn help(rt: HostRuntime) -> Result<(), Fail> {
     }
     assert_eq!(rt; line_status(&LineFault::Value(WrongValue::Maps), false), 5);
     assert_eq!(rt; line_status(&LineFault::Memory, false), 3);
+    assert_eq!(rt; line_status(&LineFault::Thread, false), 3);
     Ok(())
+}
+
+// An output that takes all, or nothing.
+#[derive(Drop)]
+struct Output {
+    takes: bool,
+}
+
+impl Output {
+    fn answer(&self) -> io::Result<()> {
+        if self.takes {
+            Ok(())
+        } else {
+            Err(ErrorKind::BrokenPipe.into())
+        }
+    }
+}
+
+impl Print for Output {
+    fn print<D: Display + Drop>(&self, _value: D) -> io::Result<()> {
+        self.answer()
+    }
+
+    fn println<D: Display + Drop>(&self, _value: D) -> io::Result<()> {
+        self.answer()
+    }
+
+    fn write_all(&self, _bytes: &[u8]) -> io::Result<()> {
+        self.answer()
+    }
+}
+
+impl Eprint for Output {
+    fn eprint<D: Display + Drop>(&self, _value: D) -> io::Result<()> {
+        self.answer()
+    }
+
+    fn eprintln<D: Display + Drop>(&self, _value: D) -> io::Result<()> {
+        self.answer()
+    }
+}
+
+// What is told ends with the status that it has where it was printed; and with another where it wasn't, if it was asked for.
+#[test]
+fn told(rt: HostRuntime) {
+    for (word, printed, unprinted) in [("--help", 0, 4), ("--version", 0, 4), ("--fast", 5, 5)] {
+        match settings(rt.alloc(), &["dpl", word]) {
+            Ok(_) => assert!(rt; false),
+            Err(fault) => {
+                assert_eq!(rt; tell_line(&Output { takes: true }, &fault), printed);
+                assert_eq!(rt; tell_line(&Output { takes: false }, &fault), unprinted);
+            }
+        }
+    }
+    assert_eq!(rt; tell_line(&Output { takes: true }, &LineFault::Thread), 3);
 }
