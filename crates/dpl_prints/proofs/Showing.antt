@@ -19,10 +19,11 @@ use Rattle.dpl_lowered.specs.LoweredStatements.{array_name, lowered_shown}
 use Rattle.dpl_lowered.proofs.Formed.{as_expr-as_item, lowered-formed}
 use Rattle.dpl_memory.specs.Memory.{ArrayKind, Variable, variable, known_variable}
 use Rattle.dpl_memory.specs.Resolved.{variable_of}
-use Rattle.dpl_nodes.specs.declared.tree.IntExpr.{IntExpr, Local as IntLocal}
+use Rattle.dpl_nodes.specs.declared.tree.IntExpr.{IntExpr, Local as IntLocal, Chain' as IntChain'}
 use Rattle.dpl_nodes.specs.declared.tree.BoolExpr.{BoolExpr, Local as TruthLocal}
 use Rattle.dpl_nodes.specs.declared.step.Argument.TheVariants as node
 use Rattle.dpl_nodes.specs.Typed.{leaf_named, int_view, truth_view}
+use Rattle.dpl_nodes.proofs.Chains.{int_links-hold}
 use Rattle.dpl_nodes.proofs.Unread.{cell_read-int, cell_read-truth}
 use Rattle.dpl_typed.specs.declared.typed.Typed.{Typed}
 use Rattle.dpl_typed.specs.declared.typed.Typed.TheVariants as typed
@@ -53,6 +54,8 @@ side-argument ss e (Some t) h =
 -- ---- what is shown as it is
 array_name-int : (e : IntExpr) → array_name known_variable (bare_name (int_view e)) ≡ None
 array_name-int (IntLocal slot) = refl
+array_name-int (IntChain' p first q shape row) =
+    int_links-hold (λ a. array_name known_variable (bare_name a) ≡ None) (λ a b op. refl) row (int_view first) (array_name-int first)
 array_name-int e = refl
 
 array_name-truth : (e : BoolExpr) → array_name known_variable (bare_name (truth_view e)) ≡ None

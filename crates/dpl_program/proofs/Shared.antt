@@ -11,6 +11,9 @@ use Rattle.dpl_nodes.specs.contracts.tree.IntExpr as int
 use Rattle.dpl_nodes.specs.contracts.tree.BoolExpr as truth
 use Rattle.dpl_nodes.specs.contracts.tree.RangeExpr as range
 use Rattle.dpl_nodes.specs.contracts.tree.DomainExpr as domain
+use Rattle.dpl_nodes.specs.contracts.tree.PromotedInt as ints
+use Rattle.dpl_nodes.specs.contracts.tree.PromotedTruth as truths
+use Rattle.dpl_nodes.specs.contracts.step.ArrayDeclaration as array
 use Rattle.dpl_nodes.specs.contracts.step.Step as step
 use Rattle.dpl_program.specs.contracts.body.Body as body
 
@@ -28,7 +31,18 @@ domain-sync κ = search rings depth 60 fits 20000
 pub truth-sync : (κ : NamedLft) → IsSync (truth.the_row κ)
 truth-sync κ = search (int-sync, range-sync, domain-sync, rings) depth 60 fits 20000
 
-pub ruleset fields = (int-sync, range-sync, domain-sync, truth-sync, rings)
+pub ruleset nodes = (int-sync, range-sync, domain-sync, truth-sync, rings)
+
+pub ints-sync : (κ : NamedLft) → IsSync (ints.the_row κ)
+ints-sync κ = search nodes depth 60 fits 20000
+
+pub truths-sync : (κ : NamedLft) → IsSync (truths.the_row κ)
+truths-sync κ = search (ints-sync, nodes) depth 60 fits 20000
+
+pub array-sync : (κ : NamedLft) → IsSync (array.the_row κ)
+array-sync κ = search (ints-sync, truths-sync, nodes) depth 60 fits 20000
+
+pub ruleset fields = (array-sync, ints-sync, truths-sync, nodes)
 
 pub step-sync : (κ : NamedLft) → IsSync (step.the_row κ)
 step-sync κ =
