@@ -37,8 +37,8 @@ returns-clause-ran g t c =
     (have_run_more b alone may tries n first below.seat seat c.join.new.seat below.ends.items end have ran c.join.ensures.own c.join.ensures.joined))
 
 -- the last frame is that of the task that is started, and the others are those of the tasks before it
-pub spawn_with-requires-clause-runs : goal.spawn_with-requires-clause-runs
-spawn_with-requires-clause-runs g t c κs within =
+pub start-requires-clause-runs : goal.start-requires-clause-runs
+start-requires-clause-runs g t c κs within =
     let P : ℕ → g.row.T-Frame.Denot → Type 0 = λ k frame. g.T.Tasks.starts c.args.site.now.tasks.now k c.args.site.now.board.now.opening frame in
     let count : length c.pop.new.self.items ≡ length c.last_seat-seat.new.seats.items = search rules in
     let number : c.len-number.result ≡ length c.last_seat-seat.new.seats.items = search rules in
