@@ -9,15 +9,21 @@ use dpl_range::Range;
 use std::alloc::Global;
 use std::io;
 
-fn main(rt: HostRuntime) -> io::Result<()> {
-    let line = Range::new(1, 8, 1).expect(&rt, "bounds within 2^60");
-    let domain = Domain::new(&[line]).expect(&rt, "one to three ranges");
-    let grid = Grid::new(&[3]).expect(&rt, "1 to 64 locales");
-    let map = Map::block(&domain, grid).expect(&rt, "a box with an index");
-    let array = DArray::new(rt.alloc(), domain, map, 0).expect(&rt, "memory for 8 elements");
+// An array of eight elements, in blocks for three locales. Only memory can be refused.
+fn made(alloc: Global) -> Option<DArray<i64>> {
+    let line = Range::new(1, 8, 1).ok()?;
+    let domain = Domain::new(&[line]).ok()?;
+    let grid = Grid::new(&[3]).ok()?;
+    let map = Map::block(&domain, grid).ok()?;
+    DArray::new(alloc, domain, map, 0).ok()
+}
 
+fn main(rt: HostRuntime) -> io::Result<()> {
+    let Some(array) = made(rt.alloc()) else {
+        return println!(&rt; "out of memory");
+    };
     let mut pieces = array.take_pieces();
-    for locale in 0..map.locales() {
+    for locale in 0..pieces.map().locales() {
         fill(rt.alloc(), &mut pieces, locale);
     }
     if !pieces.is_whole() {

@@ -7,38 +7,54 @@ use dpl_map::{Grid, Map};
 use dpl_range::Range;
 use std::alloc::Global;
 use std::io;
-use std::process::Abort;
+
+// Three maps of a plane, and the plane without its border.
+#[derive(Drop)]
+struct Cuts {
+    block: Map,
+    cyclic: Map,
+    both: Map,
+    inside: Domain,
+}
+
+// None of these is refused: bounds are within 2^60, there are one to three dimensions and 1 to 64 locales, and each size is 1 or more.
+fn made() -> Option<Cuts> {
+    let rows = Range::new(1, 4, 1).ok()?;
+    let columns = Range::new(1, 8, 1).ok()?;
+    let plane = Domain::new(&[rows, columns]).ok()?;
+    let grid = Grid::new(&[2, 2]).ok()?;
+    let start = Index::new(&[1, 1])?;
+    let sizes = Index::new(&[1, 2])?;
+    Some(Cuts {
+        block: Map::block(&plane, grid).ok()?,
+        cyclic: Map::cyclic(start, grid).ok()?,
+        both: Map::block_cyclic(start, sizes, grid).ok()?,
+        inside: plane.expand(-1).ok()?,
+    })
+}
 
 fn main(rt: HostRuntime) -> io::Result<()> {
-    let rows = Range::new(1, 4, 1).expect(&rt, "bounds within 2^60");
-    let columns = Range::new(1, 8, 1).expect(&rt, "bounds within 2^60");
-    let plane = Domain::new(&[rows, columns]).expect(&rt, "one to three ranges");
-    let grid = Grid::new(&[2, 2]).expect(&rt, "1 to 64 locales");
-    let start = Index::new(&[1, 1]).expect(&rt, "one to three coordinates");
-    let sizes = Index::new(&[1, 2]).expect(&rt, "one to three coordinates");
-
-    let block = Map::block(&plane, grid).expect(&rt, "a box with an index");
-    let cyclic = Map::cyclic(start, grid).expect(&rt, "a start within 2^60");
-    let both = Map::block_cyclic(start, sizes, grid).expect(&rt, "sizes of 1 and more");
-
+    let Some(cuts) = made() else {
+        return println!(&rt; "there is no such map");
+    };
     println!(&rt; "blockDist           cyclicDist          blockCycDist, blocks of 1 x 2")?;
     for row in 1..5 {
-        print_owners(&rt, &block, row)?;
+        print_owners(&rt, &cuts.block, row)?;
         print!(&rt; "    ")?;
-        print_owners(&rt, &cyclic, row)?;
+        print_owners(&rt, &cuts.cyclic, row)?;
         print!(&rt; "    ")?;
-        print_owners(&rt, &both, row)?;
+        print_owners(&rt, &cuts.both, row)?;
         println!(&rt; "")?;
     }
-    let inside = plane.expand(-1).expect(&rt, "bounds within 2^60");
-    print_parts(&rt, rt.alloc(), &block, &inside)
+    print_parts(&rt, rt.alloc(), &cuts.block, &cuts.inside)
 }
 
 // The owners of the indices of a row of the plane.
-fn print_owners<R: Print + Abort>(rt: &R, map: &Map, row: i64) -> io::Result<()> {
+fn print_owners<R: Print>(rt: &R, map: &Map, row: i64) -> io::Result<()> {
     for column in 1..9 {
-        let index = Index::new(&[row, column]).expect(rt, "one to three coordinates");
-        print!(rt; "{} ", map.owner(index))?;
+        if let Some(index) = Index::new(&[row, column]) {
+            print!(rt; "{} ", map.owner(index))?;
+        }
     }
     Ok(())
 }
