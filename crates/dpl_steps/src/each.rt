@@ -118,8 +118,8 @@ fn domain_turns<'t, C: Context>(
 pub(crate) fn for_each<'t, C: Context>(
     at: &Spot,
     names: &Names<'t>,
-    over: &DomainExpr<'t>,
     body: &[Step<'t>],
+    over: &DomainExpr<'t>,
     context: &C,
     frame: &mut Frame<C::Kept>,
     out: &mut C::Out,

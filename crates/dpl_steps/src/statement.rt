@@ -193,7 +193,7 @@ fn any_statement<'t, C: Context>(
             slot,
             over,
             body,
-        } => for_loop(at, *slot, over, body, context, frame, out),
+        } => for_loop(at, *slot, body, over, context, frame, out),
         Step::Forall {
             at,
             slot,
@@ -206,7 +206,7 @@ fn any_statement<'t, C: Context>(
             names,
             over,
             body,
-        } => for_each(at, names, over, body, context, frame, out),
+        } => for_each(at, names, body, over, context, frame, out),
         Step::ForallEach {
             at,
             names,
@@ -223,8 +223,8 @@ fn any_statement<'t, C: Context>(
 fn for_loop<'t, C: Context>(
     at: &Spot,
     slot: usize,
-    over: &RangeExpr<'t>,
     body: &[Step<'t>],
+    over: &RangeExpr<'t>,
     context: &C,
     frame: &mut Frame<C::Kept>,
     out: &mut C::Out,

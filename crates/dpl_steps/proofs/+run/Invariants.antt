@@ -1,11 +1,9 @@
-use Rattle.std.proofs.Common.{◌≡◌, ◌+◌, ◌*◌, drop, length}
-use denote.Param.Weighed.{most}
+use Rattle.std.proofs.Common.{◌≡◌, drop, length}
 use Rattle.dpl_sets.specs.Ranges.{members_of}
 use Rattle.dpl_language.specs.Outcome.{Deeds, in_order, repeated}
 use Rattle.dpl_language.specs.Ranges.{indices_in}
 use Rattle.dpl_language.specs.Statements.{exec_all, holds}
 use Rattle.dpl_memory.specs.Memory.{in_memory}
-use Rattle.dpl_nodes.specs.declared.step.Step.{size-Step}
 use Rattle.dpl_nodes.specs.Typed.{truth_view}
 use Rattle.dpl_readings.specs.Readings.{steps_in}
 use Rattle.dpl_elements.specs.Turns.{in_turn, turn_in_memory, index_turn}
@@ -62,10 +60,3 @@ invariant-each::domain_turns-loop-index g l = record {
 
 abbrev pub decreases-each::domain_turns-loop-index : goal.decreases-each::domain_turns-loop-index
 decreases-each::domain_turns-loop-index g l = length l.indices
-
--- a loop runs its body: what it goes over has a size of its own, which doesn't count
-abbrev pub decreases-statement::for_loop : goal.decreases-statement::for_loop
-decreases-statement::for_loop g l = 6 * most size-Step l.body.now + 6
-
-abbrev pub decreases-each::for_each : goal.decreases-each::for_each
-decreases-each::for_each g l = 6 * most size-Step l.body.now + 6
