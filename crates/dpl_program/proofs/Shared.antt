@@ -1,4 +1,4 @@
--- The body of a forall may be shared among workers: the trees of its statements may, as those of all expressions in them. For trees that lead
+-- The body of a forall, and an assignment to a whole array, may be shared among workers: the trees of its statements may, as those of all expressions in them. For trees that lead
 -- back to themselves (a ring of types) the toolchain has this from the fields of each of their types; all of it in one search is too much for it.
 use denote.Ref.{NamedLft}
 use denote.Param.Send.{IsSync, sendable}
@@ -15,6 +15,7 @@ use Rattle.dpl_nodes.specs.contracts.tree.PromotedInt as ints
 use Rattle.dpl_nodes.specs.contracts.tree.PromotedTruth as truths
 use Rattle.dpl_nodes.specs.contracts.step.ArrayDeclaration as array
 use Rattle.dpl_nodes.specs.contracts.step.Step as step
+use Rattle.dpl_elements.specs.contracts.whole.WholeTurns as wholes
 use Rattle.dpl_program.specs.contracts.body.Body as body
 
 pub ruleset rings = (crosses, IntKnot.crosses, TruthKnot.crosses, sendable)
@@ -74,3 +75,6 @@ step-sync κ =
 
 pub body-sync : (κ λ' : NamedLft) → IsSync (body.the_row κ λ')
 body-sync κ λ' = search (step-sync, fields) depth 60 fits 20000
+
+pub wholes-sync : (κ λ' : NamedLft) → IsSync (wholes.the_row κ λ')
+wholes-sync κ λ' = search fields depth 60 fits 20000
