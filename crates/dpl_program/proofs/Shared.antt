@@ -1,5 +1,6 @@
--- The body of a forall, and an assignment to a whole array, may be shared among workers: the trees of its statements may, as those of all expressions in them. For trees that lead
--- back to themselves (a ring of types) the toolchain has this from the fields of each of their types; all of it in one search is too much for it.
+-- The body of a forall, and an assignment to a whole array, may be shared among workers: the trees of its statements may, as those of all
+-- expressions in them. For trees that lead back to themselves (a ring of types) the toolchain has this from the fields of each of their types;
+-- all of it in one search is too much for it.
 use denote.Ref.{NamedLft}
 use denote.Param.Send.{IsSync, sendable}
 use denote.Param.SendFields.{as_row_sync}
