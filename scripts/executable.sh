@@ -21,9 +21,9 @@ is_built_of() { [ -e "$top/built/dpl.gz" ] && [ "$(cat "$top/built/sources")" = 
 
 # Prints an executable with its version made whole: the sum of the sources and the number of the logic stand where it has room for them.
 stamped() {
-    sum=$(sum_of_sources | cut -c 1-16)
+    version=$(sum_of_sources | cut -c 1-16)
     logic=$(rt version | sed 's/.*logic \([0-9a-f]\{16\}\).*/\1/')
-    LC_ALL=C sed "s/sources 0\{16\}, logic 0\{16\}/sources $sum, logic $logic/" "$1"
+    LC_ALL=C sed "s/sources 0\{16\}, logic 0\{16\}/sources $version, logic $logic/" "$1"
 }
 
 # Strips an executable into a folder, under the name dpl, by the toolchain's own llvm-strip, so that all machines make the same bytes, and stamps it.
