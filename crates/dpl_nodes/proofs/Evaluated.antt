@@ -16,7 +16,7 @@ use Rattle.dpl_language.specs.Outcome.{with_ok, naming_value}
 use Rattle.dpl_language.specs.Environment.{Limits}
 use Rattle.dpl_language.specs.Expressions.{folded, fold_over, reduction, found, unless_decided, bracketed, whole_in, value_of, item_of, stridden, items_of, values_of}
 use Rattle.dpl_language.specs.Phrases.{Base, base_of}
-use Rattle.dpl_lowered.specs.Shapes.{nowhere, kept, two}
+use Rattle.dpl_lowered.specs.Shapes.{nowhere, kept, two, grouped}
 use Rattle.dpl_lowered.specs.LoweredExpressions.{EachTurn, is_end}
 use Rattle.dpl_words.specs.Words.{LeafKind, IntLeaf, TruthLeaf, RangeLeaf, no_range, IsOfKind}
 use Rattle.dpl_memory.specs.Memory.{Variable, Memory, element_as, array_at, held_at, in_memory}
@@ -30,14 +30,16 @@ use Rattle.dpl_nodes.specs.declared.fold.IntFold.{IntFold}
 use Rattle.dpl_nodes.specs.declared.fold.IntFold.TheVariants as ints
 use Rattle.dpl_nodes.specs.declared.fold.TruthFold.{TruthFold}
 use Rattle.dpl_nodes.specs.declared.fold.TruthFold.TheVariants as truths
+use Rattle.dpl_nodes.specs.declared.tree.Junction.{Junction}
+use Rattle.dpl_nodes.specs.declared.tree.Junction.TheVariants as junction
 use Rattle.dpl_nodes.specs.declared.tree.IntOperator.{IntOperator}
 use Rattle.dpl_nodes.specs.declared.tree.IntOperator.TheVariants as operator
 use Rattle.dpl_nodes.specs.declared.tree.IntExpr.{IntExpr, Chain', Number as NumberNode, Local as IntLocal, Negative', Sum', Difference', Product', Quotient', Remainder', OfRange', OfDomain', Element', Reduced' as IntReduced'}
-use Rattle.dpl_nodes.specs.declared.tree.BoolExpr.{BoolExpr, Truth as TruthNode, Local as TruthLocal, Not', And', Or', Same', Differ', Compare as CompareNode, Contains as ContainsNode, HasIndex as HasIndexNode, Element as TruthElement, Reduced' as TruthReduced'}
+use Rattle.dpl_nodes.specs.declared.tree.BoolExpr.{BoolExpr, Truth as TruthNode, Local as TruthLocal, Not', Chain' as TruthChain', Row_of-TruthLink, end_of-TruthLink, more_of-TruthLink, Compare as CompareNode, Contains as ContainsNode, HasIndex as HasIndexNode, Element as TruthElement, Reduced' as TruthReduced'}
 use Rattle.dpl_nodes.specs.declared.tree.RangeExpr.{RangeExpr, Local as RangeLocal, Between', Slice', Dimension'}
 use Rattle.dpl_nodes.specs.declared.tree.Stride.{Stride as StrideNode, Absent, By'}
-use Rattle.dpl_nodes.specs.Typed.{comparison_view, dots_view, range_word, domain_word, int_view, int_infix, int_place, truth_view, range_view, range_item, stride_view, index_items, index_exprs, domain_view, promoted_int, promoted_truth, int_fold_view, truth_fold_view}
-use Rattle.dpl_nodes.proofs.Chains.{int_links-hold}
+use Rattle.dpl_nodes.specs.Typed.{bracketed as bracketed_view, junction_view, comparison_view, dots_view, range_word, domain_word, int_view, int_infix, int_place, truth_view, truth_links, range_view, range_item, stride_view, index_items, index_exprs, domain_view, promoted_int, promoted_truth, int_fold_view, truth_fold_view}
+use Rattle.dpl_nodes.proofs.Chains.{int_links-hold, range_cuts-hold}
 
 -- a value of a kind, or a fault
 abbrev pub Gives : LeafKind → Result Value Fault → Type 0
@@ -205,12 +207,15 @@ module _ (limits : Limits) (s : Memory) where
   stridden-gives Absent range = bounded-gives range
   stridden-gives (By' at p e) range = strided-gives (value (int_view e)) range (λ v r. strided_by at.now (number v) r)
 
+  cut-gives : (a : ExprTree Variable) (cut : RangeExpr) → Gives RangeLeaf (value a) → Gives RangeLeaf (value (bracketed_view a (range_item cut)))
+  cut-gives a cut h = sliced (base_of a) (value a) (items_of limits in_memory (FirstItem (range_item cut) NoItems) s) h
+
   pub range_gives : (e : RangeExpr) → Gives RangeLeaf (value (range_view e))
   range_gives (RangeLocal slot) = (get_or s.words.ranges slot no_range, refl)
   range_gives (Between' p low at dots q high by) =
       of_bounds (λ l h. stridden limits in_memory (stride_view by) (bounded at.now (dots_view dots) (number l) (number h)) s) (value (int_view low)) (value (int_view high))
       (λ l h. stridden-gives by (bounded at.now (dots_view dots) (number l) (number h)))
-  range_gives (Slice' p r q cut) = sliced (base_of (range_view r)) (value (range_view r)) (items_of limits in_memory (FirstItem (range_item cut) NoItems) s) (range_gives r)
+  range_gives (Slice' p r q cut w shape row) = range_cuts-hold (λ a. Gives RangeLeaf (value a)) cut-gives row (bracketed_view (range_view r) (range_item cut)) (cut-gives (range_view r) cut (range_gives r))
   range_gives (Dimension' p d n) = dimensioned n (value (domain_view d))
 
   -- a chain with one operand more
@@ -243,17 +248,24 @@ module _ (limits : Limits) (s : Memory) where
   pub item_gives : (e : RangeExpr) → Gives RangeLeaf (item_of limits in_memory (range_item e) None s)
   item_gives (RangeLocal slot) = range_gives (RangeLocal slot)
   item_gives (Between' p low at dots q high by) = range_gives (Between' p low at dots q high by)
-  item_gives (Slice' p r q cut) = range_gives (Slice' p r q cut)
+  item_gives (Slice' p r q cut w shape row) = range_gives (Slice' p r q cut w shape row)
   item_gives (Dimension' p d n) = range_gives (Dimension' p d n)
+
+  joined-gives : (op : Junction) (a b : ExprTree Variable) → Gives TruthLeaf (value a) → Gives TruthLeaf (value (two a nowhere (junction_view op) b))
+  joined-gives junction.And a b h = decided (λ v w. truth v && truth w) (λ v. not (truth v)) (value a) (value b) h
+  joined-gives junction.Or a b h = decided (λ v w. truth v || truth w) (λ v. truth v) (value a) (value b) h
+  joined-gives junction.Same a b h = truth_two (λ v w. int_eq (kept_number v) (kept_number w)) (value a) (value b)
+  joined-gives junction.Differ a b h = truth_two (λ v w. not (int_eq (kept_number v) (kept_number w))) (value a) (value b)
+
+  truth_links-give : {m : _} (row : Row_of-TruthLink m) (a : ExprTree Variable) → Gives TruthLeaf (value a) → Gives TruthLeaf (value (grouped a (truth_links row)))
+  truth_links-give end_of-TruthLink a h = h
+  truth_links-give (more_of-TruthLink op p e row) a h = truth_links-give row (two a nowhere (junction_view op) (truth_view e)) (joined-gives op a (truth_view e) h)
 
   pub truth_gives : (e : BoolExpr) → Gives TruthLeaf (value (truth_view e))
   truth_gives (TruthNode b) = (b, refl)
   truth_gives (TruthLocal slot) = (not (int_eq (get_or s.words.numbers slot (pos 0)) (pos 0)), refl)
   truth_gives (Not' p e) = truth_one (λ v. not (truth v)) (value (truth_view e))
-  truth_gives (And' p a q b) = decided (λ v w. truth v && truth w) (λ v. not (truth v)) (value (truth_view a)) (value (truth_view b)) (truth_gives a)
-  truth_gives (Or' p a q b) = decided (λ v w. truth v || truth w) (λ v. truth v) (value (truth_view a)) (value (truth_view b)) (truth_gives a)
-  truth_gives (Same' p a q b) = truth_two (λ v w. int_eq (kept_number v) (kept_number w)) (value (truth_view a)) (value (truth_view b))
-  truth_gives (Differ' p a q b) = truth_two (λ v w. not (int_eq (kept_number v) (kept_number w))) (value (truth_view a)) (value (truth_view b))
+  truth_gives (TruthChain' p first q shape row) = truth_links-give row (truth_view first) (truth_gives first)
   truth_gives (CompareNode c a b) = compared c (value (int_view a.now)) (value (int_view b.now))
   truth_gives (ContainsNode r i) =
       contained (λ v vs. contains_index (ranges_in v) (index_of vs)) (value (range_view r.now)) (values_of limits in_memory (FirstExpr (int_view i.now) NoExprs) s)

@@ -2,8 +2,8 @@
 -- It is a lowered tree over slots: two operands to an operator, no brackets, and the places of faults alone.
 use Rattle.std.specs.Prelude.{ℕ, List, [], ◌∷◌, Option, Some, None}
 use Rattle.dpl_syntax.specs.declared.place.Place.{Place}
-use Rattle.dpl_language.specs.Tree.{Kind, IntKind, BoolKind, Minus, Not, Infix, Add, Subtract, Multiply, Divide, Remainder, Less, LessEqual, Greater, GreaterEqual, Equal, NotEqual, And, Or, Dots, Closed, HalfOpen, Counted, Word, Size, First, Last, Low, High, DomainOf, Op, Sum, Product, AllOf, AnyOf, BitAnd, BitOr, BitXor, Least, Greatest, ExprTree, Number, TruthWord, Named, Grouped, DomainLiteral, Prefixed, Reduced, Postfixed, ItemTree, One, RangeItem, Stride, NoStride, By, Links, NoLinks, Link, NoPosts, Post, Brackets, Dotted, MethodTree, Plainly, Dim, Contains, Expand, Items, FirstItem, NoItems, NextItem, Exprs, FirstExpr, NoExprs, NextExpr}
-use Rattle.dpl_lowered.specs.Shapes.{nowhere, kept, two, grouped}
+use Rattle.dpl_language.specs.Tree.{Kind, IntKind, BoolKind, Minus, Not, Infix, Add, Subtract, Multiply, Divide, Remainder, Less, LessEqual, Greater, GreaterEqual, Equal, NotEqual, And, Or, Dots, Closed, HalfOpen, Counted, Word, Size, First, Last, Low, High, DomainOf, Op, Sum, Product, AllOf, AnyOf, BitAnd, BitOr, BitXor, Least, Greatest, ExprTree, Number, TruthWord, Named, Grouped, DomainLiteral, Prefixed, Reduced, Postfixed, ItemTree, One, RangeItem, Stride, NoStride, By, Links, NoLinks, Link, PostTree, Posts, NoPosts, Post, Brackets, Dotted, MethodTree, Plainly, Dim, Contains, Expand, Items, FirstItem, NoItems, NextItem, Exprs, FirstExpr, NoExprs, NextExpr}
+use Rattle.dpl_lowered.specs.Shapes.{nowhere, kept, two, grouped, stacked_on}
 use Rattle.dpl_lowered.specs.LoweredExpressions.{Times, EachTurn, each_turn, is_end}
 use Rattle.dpl_memory.specs.Memory.{DomainKind, TupleKind, ArrayKind, Variable, variable, int_leaf, truth_leaf, range_leaf}
 use Rattle.dpl_nodes.specs.declared.tree.Dots.{Dots as DotsNode}
@@ -17,15 +17,22 @@ use Rattle.dpl_nodes.specs.declared.tree.Comparison.TheVariants as comparison
 use Rattle.dpl_nodes.specs.declared.tree.IntOperator.{IntOperator}
 use Rattle.dpl_nodes.specs.declared.tree.IntOperator.TheVariants as operator
 use Rattle.dpl_nodes.specs.declared.tree.IntLink.{IntLink}
+use Rattle.dpl_nodes.specs.declared.tree.Junction.{Junction}
+use Rattle.dpl_nodes.specs.declared.tree.Junction.TheVariants as junction
+use Rattle.dpl_nodes.specs.declared.tree.TruthLink.{TruthLink}
+use Rattle.dpl_nodes.specs.declared.tree.RangeCut.{RangeCut}
+use Rattle.dpl_nodes.specs.declared.tree.DomainPost.{DomainPost, Slice' as SlicePost', Expanded' as ExpandedPost'}
+use Rattle.dpl_nodes.specs.declared.tree.PromotedIntLink.{PromotedIntLink}
+use Rattle.dpl_nodes.specs.declared.tree.PromotedTruthLink.{PromotedTruthLink}
 use Rattle.dpl_nodes.specs.declared.tree.IntExpr.{IntExpr, Number as NumberNode, Local as IntLocal, Negative', Sum', Difference', Product', Quotient', Remainder', Chain', Row_of-IntLink, end_of-IntLink, more_of-IntLink, OfRange', OfDomain', Element', Reduced' as IntReduced'}
-use Rattle.dpl_nodes.specs.declared.tree.BoolExpr.{BoolExpr, Truth as TruthNode, Local as TruthLocal, Not', And', Or', Same', Differ', Compare as CompareNode, Contains as ContainsNode, HasIndex as HasIndexNode, Element as TruthElement, Reduced' as TruthReduced'}
-use Rattle.dpl_nodes.specs.declared.tree.RangeExpr.{RangeExpr, Local as RangeLocal, Between', Slice', Dimension'}
+use Rattle.dpl_nodes.specs.declared.tree.BoolExpr.{BoolExpr, Truth as TruthNode, Local as TruthLocal, Not', Chain' as TruthChain', Row_of-TruthLink, end_of-TruthLink, more_of-TruthLink, Compare as CompareNode, Contains as ContainsNode, HasIndex as HasIndexNode, Element as TruthElement, Reduced' as TruthReduced'}
+use Rattle.dpl_nodes.specs.declared.tree.RangeExpr.{RangeExpr, Local as RangeLocal, Between', Slice', Row_of-RangeCut, end_of-RangeCut, more_of-RangeCut, Dimension'}
 use Rattle.dpl_nodes.specs.declared.tree.Stride.{Stride as StrideNode, Absent, By'}
 use Rattle.dpl_nodes.specs.declared.tree.RangesExpr.{RangesExpr, Line' as LineRange', Plane' as PlaneRanges', Space' as SpaceRanges'}
 use Rattle.dpl_nodes.specs.declared.tree.IndexExpr.{IndexExpr, Line' as LineIndex', Plane' as PlaneIndex', Space' as SpaceIndex', Tuple as TupleIndex}
-use Rattle.dpl_nodes.specs.declared.tree.DomainExpr.{DomainExpr, Local as DomainLocal, OfArray, Literal', Slice' as DomainSlice', Expanded', Created'}
-use Rattle.dpl_nodes.specs.declared.tree.PromotedInt.{PromotedInt, Scalar' as IntScalar', Element as IntsElement, Negative' as Negatives', Sum' as Sums', Difference' as Differences', Product' as Products', Quotient' as Quotients', Remainder' as Remainders'}
-use Rattle.dpl_nodes.specs.declared.tree.PromotedTruth.{PromotedTruth, Scalar' as TruthScalar', Element as TruthsElement, Not' as Nots', And' as Ands', Or' as Ors', Same' as Sames', Differ' as Differs', Compare as Compares}
+use Rattle.dpl_nodes.specs.declared.tree.DomainExpr.{DomainExpr, Local as DomainLocal, OfArray, Literal', Posts', Row_of-DomainPost, end_of-DomainPost, more_of-DomainPost, Created'}
+use Rattle.dpl_nodes.specs.declared.tree.PromotedInt.{PromotedInt, Scalar' as IntScalar', Element as IntsElement, Negative' as Negatives', Chain' as IntsChain', Row_of-PromotedIntLink, end_of-PromotedIntLink, more_of-PromotedIntLink}
+use Rattle.dpl_nodes.specs.declared.tree.PromotedTruth.{PromotedTruth, Scalar' as TruthScalar', Element as TruthsElement, Not' as Nots', Chain' as TruthsChain', Row_of-PromotedTruthLink, end_of-PromotedTruthLink, more_of-PromotedTruthLink, Compare as Compares}
 use Rattle.dpl_nodes.specs.declared.fold.IntFold.{IntFold}
 use Rattle.dpl_nodes.specs.declared.fold.IntFold.TheVariants as ints
 use Rattle.dpl_nodes.specs.declared.fold.TruthFold.{TruthFold}
@@ -36,11 +43,18 @@ use Rattle.dpl_nodes.specs.declared.fold.Fold.TheVariants as fold
 abbrev pub leaf_named : Variable → ExprTree Variable
 leaf_named x = Named (record { at = nowhere; name = x })
 
+-- posts: a method, and what stands in square brackets
+abbrev pub method_post : MethodTree Variable → PostTree Variable
+method_post m = Dotted nowhere m
+
+abbrev pub square_post : Items Variable → PostTree Variable
+square_post items = Brackets nowhere items nowhere
+
 abbrev pub dotted : ExprTree Variable → MethodTree Variable → ExprTree Variable
-dotted e m = Postfixed e (Post (Dotted nowhere m) NoPosts)
+dotted e m = Postfixed e (Post (method_post m) NoPosts)
 
 abbrev pub in_square : ExprTree Variable → Items Variable → ExprTree Variable
-in_square e items = Postfixed e (Post (Brackets nowhere items nowhere) NoPosts)
+in_square e items = Postfixed e (Post (square_post items) NoPosts)
 
 abbrev pub bracketed : ExprTree Variable → ItemTree Variable → ExprTree Variable
 bracketed e item = in_square e (FirstItem item NoItems)
@@ -139,6 +153,12 @@ int_place operator.Product = nowhere
 int_place (operator.Quotient at) = at.now
 int_place (operator.Remainder at) = at.now
 
+abbrev pub junction_view : Junction → Infix
+junction_view junction.And = And
+junction_view junction.Or = Or
+junction_view junction.Same = Equal
+junction_view junction.Differ = NotEqual
+
 abbrev mutual
   pub int_view : IntExpr → ExprTree Variable
   int_view (NumberNode n) = Number nowhere n
@@ -164,15 +184,20 @@ abbrev mutual
   pub range_item : RangeExpr → ItemTree Variable
   range_item (RangeLocal slot) = One (leaf_named (range_leaf slot))
   range_item (Between' p low at dots q high stride) = RangeItem (int_view low) at.now (dots_view dots) (int_view high) (stride_view stride)
-  range_item (Slice' p r q cut) = One (bracketed (range_view r) (range_item cut))
+  range_item (Slice' p r q cut w shape row) = One (stacked_on (bracketed (range_view r) (range_item cut)) (range_cuts row))
   range_item (Dimension' p d n) = One (dotted (domain_view d) (Dim nowhere nowhere nowhere n nowhere))
 
   -- and as an expression, which stands in brackets where it has bounds
   pub range_view : RangeExpr → ExprTree Variable
   range_view (RangeLocal slot) = leaf_named (range_leaf slot)
   range_view (Between' p low at dots q high stride) = Grouped nowhere (RangeItem (int_view low) at.now (dots_view dots) (int_view high) (stride_view stride)) nowhere
-  range_view (Slice' p r q cut) = bracketed (range_view r) (range_item cut)
+  range_view (Slice' p r q cut w shape row) = stacked_on (bracketed (range_view r) (range_item cut)) (range_cuts row)
   range_view (Dimension' p d n) = dotted (domain_view d) (Dim nowhere nowhere nowhere n nowhere)
+
+  -- the further slices of a range
+  pub range_cuts : {m : _} → Row_of-RangeCut m → Posts Variable
+  range_cuts end_of-RangeCut = NoPosts
+  range_cuts (more_of-RangeCut p cut row) = Post (square_post (items_one (range_item cut))) (range_cuts row)
 
   pub stride_view : StrideNode → Stride Variable
   stride_view Absent = NoStride
@@ -195,9 +220,17 @@ abbrev mutual
   domain_view (DomainLocal slot) = leaf_named (variable DomainKind slot)
   domain_view (OfArray k slot) = dotted (leaf_named (variable (ArrayKind k) slot)) (Plainly nowhere DomainOf)
   domain_view (Literal' at p rs) = DomainLiteral at.now (ranges_items rs) nowhere
-  domain_view (DomainSlice' p d q rs) = in_square (domain_view d) (ranges_items rs)
-  domain_view (Expanded' p d at q e) = dotted (domain_view d) (Expand at.now nowhere (int_view e) nowhere)
+  domain_view (Posts' p d q shape row) = stacked_on (domain_view d) (domain_posts row)
   domain_view (Created' at p d) = DomainLiteral at.now (items_one (One (domain_view d))) nowhere
+
+  -- what is made of a domain
+  pub domain_post : DomainPost → PostTree Variable
+  domain_post (SlicePost' p rs) = square_post (ranges_items rs)
+  domain_post (ExpandedPost' at p e) = method_post (Expand at.now nowhere (int_view e) nowhere)
+
+  pub domain_posts : {m : _} → Row_of-DomainPost m → Posts Variable
+  domain_posts end_of-DomainPost = NoPosts
+  domain_posts (more_of-DomainPost post row) = Post (domain_post post) (domain_posts row)
 
   -- A promoted expression: a whole array is its name. Where the expression is evaluated at each index, the name has its
   -- place, for there it is told that the array hasn't the index.
@@ -205,16 +238,28 @@ abbrev mutual
   promoted_int m (IntScalar' p e) = int_view e
   promoted_int m (IntsElement slot at) = array_named IntKind slot (kept (each_turn m) at.now)
   promoted_int m (Negatives' p e) = Prefixed nowhere Minus (promoted_int m e)
-  promoted_int m (Sums' p a q b) = two (promoted_int m a) nowhere Add (promoted_int m b)
-  promoted_int m (Differences' p a q b) = two (promoted_int m a) nowhere Subtract (promoted_int m b)
-  promoted_int m (Products' p a q b) = two (promoted_int m a) nowhere Multiply (promoted_int m b)
-  promoted_int m (Quotients' p a q b at) = two (promoted_int m a) at.now Divide (promoted_int m b)
-  promoted_int m (Remainders' p a q b at) = two (promoted_int m a) at.now Remainder (promoted_int m b)
+  promoted_int m (IntsChain' p first q shape row) = grouped (promoted_int m first) (promoted_int_links m row)
 
--- the same for a list of links
+  pub promoted_int_links : {n : _} → Times → Row_of-PromotedIntLink n → Links Variable
+  promoted_int_links m end_of-PromotedIntLink = NoLinks
+  promoted_int_links m (more_of-PromotedIntLink op p e row) = Link (int_place op) (int_infix op) (promoted_int m e) (promoted_int_links m row)
+
+-- the same for lists of operands, slices and posts
 abbrev pub int_links_of : List IntLink → Links Variable
 int_links_of [] = NoLinks
 int_links_of (l ∷ ls) = Link (int_place l.op) (int_infix l.op) (int_view l.right.now) (int_links_of ls)
+
+abbrev pub promoted_int_links_of : Times → List PromotedIntLink → Links Variable
+promoted_int_links_of m [] = NoLinks
+promoted_int_links_of m (l ∷ ls) = Link (int_place l.op) (int_infix l.op) (promoted_int m l.right.now) (promoted_int_links_of m ls)
+
+abbrev pub range_cuts_of : List RangeCut → Posts Variable
+range_cuts_of [] = NoPosts
+range_cuts_of (c ∷ cs) = Post (square_post (items_one (range_item c.by.now))) (range_cuts_of cs)
+
+abbrev pub domain_posts_of : List DomainPost → Posts Variable
+domain_posts_of [] = NoPosts
+domain_posts_of (p ∷ ps) = Post (domain_post p) (domain_posts_of ps)
 
 -- the coordinates of an index, as arguments
 abbrev pub index_exprs : IndexExpr → Exprs Variable
@@ -228,22 +273,33 @@ abbrev mutual
   truth_view (TruthNode b) = TruthWord nowhere b
   truth_view (TruthLocal slot) = leaf_named (truth_leaf slot)
   truth_view (Not' p e) = Prefixed nowhere Not (truth_view e)
-  truth_view (And' p a q b) = two (truth_view a) nowhere And (truth_view b)
-  truth_view (Or' p a q b) = two (truth_view a) nowhere Or (truth_view b)
-  truth_view (Same' p a q b) = two (truth_view a) nowhere Equal (truth_view b)
-  truth_view (Differ' p a q b) = two (truth_view a) nowhere NotEqual (truth_view b)
+  truth_view (TruthChain' p first q shape row) = grouped (truth_view first) (truth_links row)
   truth_view (CompareNode c a b) = two (int_view a.now) nowhere (comparison_view c) (int_view b.now)
   truth_view (ContainsNode r i) = dotted (range_view r.now) (Contains nowhere nowhere (FirstExpr (int_view i.now) NoExprs) nowhere)
   truth_view (HasIndexNode d t) = dotted (domain_view d.now) (Contains nowhere nowhere (index_exprs t.now) nowhere)
   truth_view (TruthElement slot t at) = in_square (array_named BoolKind slot at.now) (index_items t.now)
   truth_view (TruthReduced' f p e at) = Reduced nowhere (truth_fold_view f) at.now (promoted_truth EachTurn e)
 
+  -- the further operands of a chain
+  pub truth_links : {m : _} → Row_of-TruthLink m → Links Variable
+  truth_links end_of-TruthLink = NoLinks
+  truth_links (more_of-TruthLink op p e row) = Link nowhere (junction_view op) (truth_view e) (truth_links row)
+
   pub promoted_truth : Times → PromotedTruth → ExprTree Variable
   promoted_truth m (TruthScalar' p e) = truth_view e
   promoted_truth m (TruthsElement slot at) = array_named BoolKind slot (kept (each_turn m) at.now)
   promoted_truth m (Nots' p e) = Prefixed nowhere Not (promoted_truth m e)
-  promoted_truth m (Ands' p a q b) = two (promoted_truth m a) nowhere And (promoted_truth m b)
-  promoted_truth m (Ors' p a q b) = two (promoted_truth m a) nowhere Or (promoted_truth m b)
-  promoted_truth m (Sames' p a q b) = two (promoted_truth m a) nowhere Equal (promoted_truth m b)
-  promoted_truth m (Differs' p a q b) = two (promoted_truth m a) nowhere NotEqual (promoted_truth m b)
+  promoted_truth m (TruthsChain' p first q shape row) = grouped (promoted_truth m first) (promoted_truth_links m row)
   promoted_truth m (Compares c a b) = two (promoted_int m a.now) nowhere (comparison_view c) (promoted_int m b.now)
+
+  pub promoted_truth_links : {n : _} → Times → Row_of-PromotedTruthLink n → Links Variable
+  promoted_truth_links m end_of-PromotedTruthLink = NoLinks
+  promoted_truth_links m (more_of-PromotedTruthLink op p e row) = Link nowhere (junction_view op) (promoted_truth m e) (promoted_truth_links m row)
+
+abbrev pub truth_links_of : List TruthLink → Links Variable
+truth_links_of [] = NoLinks
+truth_links_of (l ∷ ls) = Link nowhere (junction_view l.op) (truth_view l.right.now) (truth_links_of ls)
+
+abbrev pub promoted_truth_links_of : Times → List PromotedTruthLink → Links Variable
+promoted_truth_links_of m [] = NoLinks
+promoted_truth_links_of m (l ∷ ls) = Link nowhere (junction_view l.op) (promoted_truth m l.right.now) (promoted_truth_links_of m ls)

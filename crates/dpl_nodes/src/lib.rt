@@ -20,6 +20,7 @@ pub use step::{
 };
 pub use stop::NoNode;
 pub use tree::{
-    BoolExpr, Comparison, DomainExpr, DomainMethod, Dots, IndexExpr, IntExpr, IntLink, IntOperator,
-    PromotedInt, PromotedTruth, RangeExpr, RangeMethod, RangesExpr, Stride,
+    BoolExpr, Comparison, DomainExpr, DomainMethod, DomainPost, Dots, IndexExpr, IntExpr, IntLink,
+    IntOperator, Junction, PromotedInt, PromotedIntLink, PromotedTruth, PromotedTruthLink,
+    RangeCut, RangeExpr, RangeMethod, RangesExpr, Stride, TruthLink,
 };

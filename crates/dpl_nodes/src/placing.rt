@@ -53,8 +53,7 @@ impl<'t> DomainExpr<'t> {
             DomainExpr::Local(slot) => Some(*slot),
             DomainExpr::OfArray(_, slot) => Some(*slot),
             DomainExpr::Literal(_, _) => None,
-            DomainExpr::Slice(d, _) => d.origin(),
-            DomainExpr::Expanded(d, _, _) => d.origin(),
+            DomainExpr::Posts(d, _) => d.origin(),
             DomainExpr::Created(_, _) => None,
         }
     }

@@ -1,4 +1,5 @@
-// Typed expressions. An expression has the type of its enum, a variable is its slot, and a chain is a nest of two operands each.
+// Typed expressions. An expression has the type of its enum, and a variable is its slot. A chain has its further operands in a list, so that no walk
+// calls itself for each of them; a chain of two ints has a node of its own, since most chains are such ones.
 // They lie in the arena of the tree; specs/Typed.antt gives the plain tree that each stands for.
 
 ghost use Rattle.std.specs.Prelude.{◌≡◌};
@@ -121,6 +122,24 @@ pub enum Comparison {
     AtLeast,
 }
 
+/// An operator between two truth values.
+#[derive(Clone, Copy, PartialEq, Eq, Debug)]
+pub enum Junction {
+    And,
+    Or,
+    /// Both are the same, or they differ.
+    Same,
+    Differ,
+}
+
+/// A further operand of a chain of truth values, behind its operator.
+#[cycle(truth)]
+#[derive(Clone, Copy)]
+pub struct TruthLink<'t> {
+    pub op: Junction,
+    pub right: &'t BoolExpr<'t>,
+}
+
 /// An expression that is a truth value.
 #[cycle(truth)]
 #[derive(Clone, Copy)]
@@ -129,11 +148,8 @@ pub enum BoolExpr<'t> {
     /// The variable in a slot.
     Local(usize),
     Not(&'t BoolExpr<'t>),
-    And(&'t BoolExpr<'t>, &'t BoolExpr<'t>),
-    Or(&'t BoolExpr<'t>, &'t BoolExpr<'t>),
-    /// Two truth values are the same, or differ.
-    Same(&'t BoolExpr<'t>, &'t BoolExpr<'t>),
-    Differ(&'t BoolExpr<'t>, &'t BoolExpr<'t>),
+    /// The first operand of a chain, and the others, from left to right.
+    Chain(&'t BoolExpr<'t>, &'t [TruthLink<'t>]),
     Compare(Comparison, &'t IntExpr<'t>, &'t IntExpr<'t>),
     /// A range has the int.
     Contains(&'t RangeExpr<'t>, &'t IntExpr<'t>),
@@ -153,6 +169,13 @@ pub enum Stride<'t> {
     By(&'t Spot, &'t IntExpr<'t>),
 }
 
+/// A further range that a range is sliced by.
+#[cycle(typed)]
+#[derive(Clone, Copy)]
+pub struct RangeCut<'t> {
+    pub by: &'t RangeExpr<'t>,
+}
+
 /// An expression that is a range.
 #[cycle(typed)]
 #[derive(Clone, Copy)]
@@ -161,8 +184,8 @@ pub enum RangeExpr<'t> {
     Local(usize),
     /// A low bound, the place where a bound or a count past its limit is told, a high bound or a count, and a stride.
     Between(&'t IntExpr<'t>, &'t Spot, Dots, &'t IntExpr<'t>, Stride<'t>),
-    /// What of a range lies between the bounds of another one.
-    Slice(&'t RangeExpr<'t>, &'t RangeExpr<'t>),
+    /// What of a range lies between the bounds of another one, and of further ones.
+    Slice(&'t RangeExpr<'t>, &'t RangeExpr<'t>, &'t [RangeCut<'t>]),
     /// A dimension of a domain, counted from 0.
     Dimension(&'t DomainExpr<'t>, u32),
 }
@@ -186,6 +209,16 @@ pub enum IndexExpr<'t> {
     Tuple(usize),
 }
 
+/// What makes a domain of another one.
+#[cycle(typed)]
+#[derive(Clone, Copy)]
+pub enum DomainPost<'t> {
+    /// Each dimension between the bounds of its range.
+    Slice(&'t RangesExpr<'t>),
+    /// `expand`, with the place where a bound past its limit and too many indices are told.
+    Expanded(&'t Spot, &'t IntExpr<'t>),
+}
+
 /// An expression that is a domain.
 #[cycle(typed)]
 #[derive(Clone, Copy)]
@@ -196,12 +229,18 @@ pub enum DomainExpr<'t> {
     OfArray(ScalarKind, usize),
     /// `{..}`, with the place where it is told that there are too many indices.
     Literal(&'t Spot, &'t RangesExpr<'t>),
-    /// Each dimension between the bounds of its range.
-    Slice(&'t DomainExpr<'t>, &'t RangesExpr<'t>),
-    /// `expand`, with the place where a bound past its limit and too many indices are told.
-    Expanded(&'t DomainExpr<'t>, &'t Spot, &'t IntExpr<'t>),
+    /// What is made of a domain, from left to right.
+    Posts(&'t DomainExpr<'t>, &'t [DomainPost<'t>]),
     /// What is created from a domain: the set of its ranges, with the place where it would be told that there are too many indices.
     Created(&'t Spot, &'t DomainExpr<'t>),
+}
+
+/// A further operand of a chain of promoted ints, behind its operator.
+#[cycle(typed)]
+#[derive(Clone, Copy)]
+pub struct PromotedIntLink<'t> {
+    pub op: IntOperator<'t>,
+    pub right: &'t PromotedInt<'t>,
 }
 
 /// An int at each index of the whole arrays in it, as `A * 2 + 1`. It is walked at one index after another.
@@ -213,12 +252,16 @@ pub enum PromotedInt<'t> {
     /// The element of the array in a slot, with the place of its name, where it is told that the array hasn't the index.
     Element(usize, &'t Spot),
     Negative(&'t PromotedInt<'t>),
-    Sum(&'t PromotedInt<'t>, &'t PromotedInt<'t>),
-    Difference(&'t PromotedInt<'t>, &'t PromotedInt<'t>),
-    Product(&'t PromotedInt<'t>, &'t PromotedInt<'t>),
-    /// With the place where a division by zero is told.
-    Quotient(&'t PromotedInt<'t>, &'t PromotedInt<'t>, &'t Spot),
-    Remainder(&'t PromotedInt<'t>, &'t PromotedInt<'t>, &'t Spot),
+    /// The first operand of a chain, and the others, from left to right.
+    Chain(&'t PromotedInt<'t>, &'t [PromotedIntLink<'t>]),
+}
+
+/// A further operand of a chain of promoted truth values, behind its operator.
+#[cycle(truth)]
+#[derive(Clone, Copy)]
+pub struct PromotedTruthLink<'t> {
+    pub op: Junction,
+    pub right: &'t PromotedTruth<'t>,
 }
 
 /// A truth value at each index.
@@ -230,10 +273,7 @@ pub enum PromotedTruth<'t> {
     /// The element of the array in a slot, with the place of its name, where it is told that the array hasn't the index.
     Element(usize, &'t Spot),
     Not(&'t PromotedTruth<'t>),
-    And(&'t PromotedTruth<'t>, &'t PromotedTruth<'t>),
-    Or(&'t PromotedTruth<'t>, &'t PromotedTruth<'t>),
-    /// Two truth values are the same, or differ.
-    Same(&'t PromotedTruth<'t>, &'t PromotedTruth<'t>),
-    Differ(&'t PromotedTruth<'t>, &'t PromotedTruth<'t>),
+    /// The first operand of a chain, and the others, from left to right.
+    Chain(&'t PromotedTruth<'t>, &'t [PromotedTruthLink<'t>]),
     Compare(Comparison, &'t PromotedInt<'t>, &'t PromotedInt<'t>),
 }
