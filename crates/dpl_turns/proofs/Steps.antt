@@ -15,9 +15,10 @@ use Rattle.dpl_nodes.specs.declared.tree.IndexExpr.{IndexExpr}
 use Rattle.dpl_nodes.specs.declared.step.ArrayName.{ArrayName}
 use Rattle.dpl_nodes.specs.declared.step.StepWord.{StepWord}
 use Rattle.dpl_nodes.specs.declared.step.StepWord.TheVariants as word
-use Rattle.dpl_nodes.specs.Typed.{int_view, truth_view, range_item, index_exprs}
+use Rattle.dpl_nodes.specs.Typed.{bracketed, int_view, truth_view, range_item, range_view, index_exprs}
 use Rattle.dpl_nodes.specs.Steps.{declared_as, assigned_to, element_set, array_leaf, step_word, listed}
 use Rattle.dpl_nodes.proofs.Unread.{cell_read-int, cell_read-truth, item_read-range}
+use Rattle.dpl_nodes.proofs.Chains.{range_cuts-hold}
 use Rattle.dpl_apart.specs.Memories.{Changes}
 use Rattle.dpl_turns.specs.Bodies.{OwnNames, IsOwn, is_reduced, may_assign, may_declare, turn_scoping, IsSilent, AreSilent, IsSilentElse}
 use Rattle.dpl_turns.proofs.Typed.{int_view-fits, truth_view-fits}
@@ -33,7 +34,8 @@ module _ (h : Changes) (own : OwnNames) (t : Index) where
   range_item-fits : (i : Index) (r : RangeExpr) → fits_item (turn_scoping h own t) None (range_item r) tt → fits_item (turn_scoping h own t) (Some i) (range_item r) tt
   range_item-fits i (RangeLocal slot) fit = (fit, tt)
   range_item-fits i (Between' p low at dots q high stride) fit = fit
-  range_item-fits i (Slice' p r q cut) fit = fit
+  range_item-fits i (Slice' p r q cut w shape row) fit =
+      range_cuts-hold (λ e. fits_expr (turn_scoping h own t) None e tt → fits_expr (turn_scoping h own t) (Some i) e tt) (λ e c so_far h. h) row (bracketed (range_view r) (range_item cut)) (λ h. h) fit
   range_item-fits i (Dimension' p d n) fit = fit
 
   -- ---- assignments to variables

@@ -1,4 +1,4 @@
--- The turns of a typed forall, and of typed assignments to whole arrays.
+-- The turns of a typed forall, and right sides in them.
 use Rattle.std.proofs.Common.{Some, None, ◌≡◌, ℕ, List, [], refl, subst}
 use Rattle.dpl_language.specs.Tree.{Op, ExprTree, Stmts}
 use Rattle.dpl_language.specs.Values.{Domain, Index}
@@ -9,18 +9,14 @@ use Rattle.dpl_memory.specs.Memory.{Variable, in_memory}
 use Rattle.dpl_nodes.specs.declared.step.Names.{Names}
 use Rattle.dpl_nodes.specs.declared.step.Names.TheVariants.{Int as IntName, Tuple as TupleName, Each}
 use Rattle.dpl_nodes.specs.declared.tree.IntExpr.{IntExpr, Number, Local as IntLocal, Negative' as IntNegative', Sum' as IntSum', Difference' as IntDifference', Product' as IntProduct', Quotient' as IntQuotient', Remainder' as IntRemainder', Chain' as IntChain', Row_of-IntLink, end_of-IntLink, more_of-IntLink}
-use Rattle.dpl_nodes.specs.declared.tree.BoolExpr.{BoolExpr, Truth as TruthNode, Local as TruthLocal, Not' as TruthNot', And' as TruthAnd', Or' as TruthOr', Same' as TruthSame', Differ' as TruthDiffer', Compare as TruthCompare}
-use Rattle.dpl_nodes.specs.declared.tree.PromotedInt.{PromotedInt, Scalar' as IntScalar', Element as IntsElement, Negative' as Negatives', Sum' as Sums', Difference' as Differences', Product' as Products', Quotient' as Quotients', Remainder' as Remainders'}
-use Rattle.dpl_nodes.specs.declared.tree.PromotedTruth.{PromotedTruth, Scalar' as TruthScalar', Element as TruthsElement, Not' as Nots', And' as Ands', Or' as Ors', Same' as Sames', Differ' as Differs', Compare as Compares}
-use Rattle.dpl_nodes.specs.Typed.{int_view, int_links, int_infix, int_place, truth_view, promoted_int, promoted_truth}
+use Rattle.dpl_nodes.specs.declared.tree.BoolExpr.{BoolExpr, Truth as TruthNode, Local as TruthLocal, Not' as TruthNot', Chain' as TruthChain', Row_of-TruthLink, end_of-TruthLink, more_of-TruthLink, Compare as TruthCompare}
+use Rattle.dpl_nodes.specs.Typed.{int_view, int_links, int_infix, int_place, truth_view, truth_links, junction_view}
 use Rattle.dpl_nodes.specs.Steps.{names_view}
-use Rattle.dpl_lowered.specs.LoweredExpressions.{Times}
-use Rattle.dpl_lowered.specs.Shapes.{two, grouped}
+use Rattle.dpl_lowered.specs.Shapes.{nowhere, two, grouped}
 use Rattle.dpl_agreement.specs.Scopes.{fits_expr}
 use Rattle.dpl_apart.specs.Memories.{MayBeApart, Changes}
-use Rattle.dpl_turns.specs.Wholes.{whole_changes, ReadsOwn}
-use Rattle.dpl_turns.specs.Bodies.{OwnNames, NoNames, loop_variables, body_changes, turn_scoping, KeepsApart}
-use Rattle.dpl_turns.specs.Typed.{own_of, SparesInts, SparesTruths}
+use Rattle.dpl_turns.specs.Bodies.{OwnNames, loop_variables, body_changes, turn_scoping, KeepsApart}
+use Rattle.dpl_turns.specs.Typed.{own_of}
 use Rattle.dpl_turns.proofs.Bodies.{body-apart}
 
 own-variables : (names : Names) → loop_variables (own_of names) [] ≡ names_view names
@@ -58,35 +54,17 @@ module _ (h : Changes) (own : OwnNames) (t i : Index) where
     int_links-fit (more_of-IntLink op p e row) a so_far fits =
         int_links-fit row (two a (int_place op) (int_infix op) (int_view e)) (λ both. (so_far both.0, (int_view-fits e both.1.0, tt))) fits
 
-  pub truth_view-fits : (e : BoolExpr) → fits_expr (turn_scoping h own t) None (truth_view e) tt → fits_expr (turn_scoping h own t) (Some i) (truth_view e) tt
-  truth_view-fits (TruthNode b) fits = tt
-  truth_view-fits (TruthLocal slot) fits = (fits, tt)
-  truth_view-fits (TruthNot' p e) fits = truth_view-fits e fits
-  truth_view-fits (TruthAnd' p a q b) fits = (truth_view-fits a fits.0, (truth_view-fits b fits.1.0, tt))
-  truth_view-fits (TruthOr' p a q b) fits = (truth_view-fits a fits.0, (truth_view-fits b fits.1.0, tt))
-  truth_view-fits (TruthSame' p a q b) fits = (truth_view-fits a fits.0, (truth_view-fits b fits.1.0, tt))
-  truth_view-fits (TruthDiffer' p a q b) fits = (truth_view-fits a fits.0, (truth_view-fits b fits.1.0, tt))
-  truth_view-fits (TruthCompare c a b) fits = (int_view-fits a.now fits.0, (int_view-fits b.now fits.1.0, tt))
-  truth_view-fits _ fits = fits
+  mutual
+    pub truth_view-fits : (e : BoolExpr) → fits_expr (turn_scoping h own t) None (truth_view e) tt → fits_expr (turn_scoping h own t) (Some i) (truth_view e) tt
+    truth_view-fits (TruthNode b) fits = tt
+    truth_view-fits (TruthLocal slot) fits = (fits, tt)
+    truth_view-fits (TruthNot' p e) fits = truth_view-fits e fits
+    truth_view-fits (TruthChain' p first q shape row) fits = truth_links-fit row (truth_view first) (truth_view-fits first) fits
+    truth_view-fits (TruthCompare c a b) fits = (int_view-fits a.now fits.0, (int_view-fits b.now fits.1.0, tt))
+    truth_view-fits _ fits = fits
 
--- A promoted expression reads the array at its index alone, where each part without a whole array reads no element of it.
-module _ (rank slot : ℕ) (m : Times) where
-  pub ints-own : (e : PromotedInt) → SparesInts rank slot e → ReadsOwn rank slot (promoted_int m e)
-  ints-own (IntScalar' p e) spares t = int_view-fits (whole_changes rank slot) NoNames t t e (spares t)
-  ints-own (IntsElement i at) spares t = (refl, λ written. refl)
-  ints-own (Negatives' p e) spares t = ints-own e spares t
-  ints-own (Sums' p a q b) spares t = (ints-own a spares.0 t, (ints-own b spares.1 t, tt))
-  ints-own (Differences' p a q b) spares t = (ints-own a spares.0 t, (ints-own b spares.1 t, tt))
-  ints-own (Products' p a q b) spares t = (ints-own a spares.0 t, (ints-own b spares.1 t, tt))
-  ints-own (Quotients' p a q b at) spares t = (ints-own a spares.0 t, (ints-own b spares.1 t, tt))
-  ints-own (Remainders' p a q b at) spares t = (ints-own a spares.0 t, (ints-own b spares.1 t, tt))
-
-  pub truths-own : (e : PromotedTruth) → SparesTruths rank slot e → ReadsOwn rank slot (promoted_truth m e)
-  truths-own (TruthScalar' p e) spares t = truth_view-fits (whole_changes rank slot) NoNames t t e (spares t)
-  truths-own (TruthsElement i at) spares t = (refl, λ written. refl)
-  truths-own (Nots' p e) spares t = truths-own e spares t
-  truths-own (Ands' p a q b) spares t = (truths-own a spares.0 t, (truths-own b spares.1 t, tt))
-  truths-own (Ors' p a q b) spares t = (truths-own a spares.0 t, (truths-own b spares.1 t, tt))
-  truths-own (Sames' p a q b) spares t = (truths-own a spares.0 t, (truths-own b spares.1 t, tt))
-  truths-own (Differs' p a q b) spares t = (truths-own a spares.0 t, (truths-own b spares.1 t, tt))
-  truths-own (Compares c a b) spares t = (ints-own a.now spares.0 t, (ints-own b.now spares.1 t, tt))
+    truth_links-fit : {m : _} (row : Row_of-TruthLink m) (a : ExprTree Variable) → (fits_expr (turn_scoping h own t) None a tt → fits_expr (turn_scoping h own t) (Some i) a tt)
+        → fits_expr (turn_scoping h own t) None (grouped a (truth_links row)) tt → fits_expr (turn_scoping h own t) (Some i) (grouped a (truth_links row)) tt
+    truth_links-fit end_of-TruthLink a so_far fits = so_far fits
+    truth_links-fit (more_of-TruthLink op p e row) a so_far fits =
+        truth_links-fit row (two a nowhere (junction_view op) (truth_view e)) (λ both. (so_far both.0, (truth_view-fits e both.1.0, tt))) fits
