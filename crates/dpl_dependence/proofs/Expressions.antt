@@ -1,22 +1,18 @@
 -- Typed expressions in turns, where their plain trees have two forms.
-use Rattle.std.proofs.Common.{◌≡◌, ◌+◌, ◌<◌, ◌≤◌, ℕ, List, drop, get_or, length, Option, None, refl, sym, subst}
-use Rattle.dpl_syntax.proofs.Walks.{drop-end}
-use Rattle.dpl_language.specs.Tree.{ExprTree, Links, NoLinks, Link, Items}
+use Rattle.std.proofs.Common.{◌≡◌, Option, None, refl}
+use Rattle.dpl_language.specs.Tree.{ExprTree, Postfixed, Links, NoLinks, Link, PostTree, Brackets, Rounds, Dotted, Posts, NoPosts, Post, Items}
 use Rattle.dpl_language.specs.Values.{Index}
-use Rattle.dpl_language.specs.Phrases.{base_of}
+use Rattle.dpl_language.specs.Phrases.{Base, OtherBase, base_of}
 use Rattle.dpl_memory.specs.Memory.{Variable}
-use Rattle.dpl_lowered.specs.Shapes.{two, grouped}
-use Rattle.dpl_agreement.specs.Scopes.{items_in, fits_expr, fits_links, fits_item, fits_items, fits_exprs, fits_element}
-use Rattle.dpl_nodes.specs.declared.tree.IntLink.{IntLink}
-use Rattle.dpl_nodes.specs.declared.tree.RangeExpr.{RangeExpr, Local as RangeLocal}
+use Rattle.dpl_lowered.specs.Shapes.{two, grouped, stacked_on}
+use Rattle.dpl_agreement.specs.Scopes.{items_in, fits_expr, fits_links, fits_item, fits_items, fits_exprs, fits_element, fits_post, fits_posts}
+use Rattle.dpl_nodes.specs.declared.tree.RangeExpr.{RangeExpr, Local as RangeLocal, Slice'}
 use Rattle.dpl_nodes.specs.declared.tree.IndexExpr.{IndexExpr, Line'}
-use Rattle.dpl_nodes.specs.declared.tree.DomainExpr.{DomainExpr, Local as DomainLocal}
-use Rattle.dpl_nodes.specs.Typed.{int_view, int_links_of, range_item, range_view, index_items, index_exprs, domain_view}
-use Rattle.dpl_nodes.proofs.Chains.{int_links-from}
+use Rattle.dpl_nodes.specs.declared.tree.DomainExpr.{DomainExpr, Local as DomainLocal, Posts'}
+use Rattle.dpl_nodes.specs.Typed.{bracketed, range_item, range_view, index_items, index_exprs, domain_view}
+use Rattle.dpl_nodes.proofs.Chains.{range_cuts-hold, domain_posts-hold}
 use Rattle.dpl_turns.specs.Bodies.{OwnNames, turn_scoping}
 use Rattle.dpl_apart.specs.Memories.{Changes}
-use Rattle.dpl_dependence.specs.declared.turn.TurnRules.{TurnRules}
-use Rattle.dpl_dependence.specs.Turns.{MayEvaluate, MayLink}
 
 -- the same index between square brackets and between round ones
 pub index-same : (x : IndexExpr) → items_in (index_exprs x) ≡ index_items x
@@ -36,10 +32,14 @@ module _ (h : Changes) (own : OwnNames) (t : Index) where
   -- neither a range nor a domain is an array, and so nothing is asked of what it is cut by
   pub range-base_fits : (r : RangeExpr) (items : Items Variable) → fits_element (turn_scoping h own t) (base_of (range_view r)) items tt
   range-base_fits (RangeLocal slot) items = tt
+  range-base_fits (Slice' p r q cut w shape row) items =
+      range_cuts-hold (λ a. fits_element (turn_scoping h own t) (base_of a) items tt) (λ a c fit. tt) row (bracketed (range_view r) (range_item cut)) tt
   range-base_fits _ items = tt
 
   pub domain-base_fits : (d : DomainExpr) (items : Items Variable) → fits_element (turn_scoping h own t) (base_of (domain_view d)) items tt
   domain-base_fits (DomainLocal slot) items = tt
+  domain-base_fits (Posts' p d q shape row) items =
+      domain_posts-hold (λ a. fits_element (turn_scoping h own t) (base_of a) items tt) (λ a post fit. tt) row (domain_view d) (domain-base_fits d items)
   domain-base_fits _ items = tt
 
   -- a chain by its first operand and the others
@@ -48,13 +48,14 @@ module _ (h : Changes) (own : OwnNames) (t : Index) where
   grouped-fits i a NoLinks fit rest = fit
   grouped-fits i a (Link at op b ls) fit rest = grouped-fits i (two a at op b) ls (fit, (rest.0, tt)) rest.1
 
--- the further operands of a chain, one by one
-module _ (rules : TurnRules) where
-  abbrev pub LinksMay : List IntLink → Type 0
-  LinksMay links = MayLink rules (int_links_of links)
+  -- posts behind a base that is no array
+  post-fits : (p : PostTree Variable) (b : Base Variable) → ((items : Items Variable) → fits_element (turn_scoping h own t) b items tt)
+      → fits_post (turn_scoping h own t) p OtherBase tt → fits_post (turn_scoping h own t) p b tt
+  post-fits (Brackets from items upto) b none fit = (fit.0, none items)
+  post-fits (Rounds from es upto) b none fit = (fit.0, none (items_in es))
+  post-fits (Dotted dot m) b none fit = fit
 
-  pub links-next : (links : List IntLink) (k : ℕ) (l : IntLink) → k < length links → l ≡ get_or links k l → MayEvaluate rules (int_view l.right.now) → LinksMay (drop (k + 1) links) → LinksMay (drop k links)
-  links-next links k l within is may rest = subst (MayLink rules) (sym (int_links-from links k l within is)) (λ t. (may t, rest t))
-
-  pub links-end : (links : List IntLink) (k : ℕ) → length links ≤ k → LinksMay (drop k links)
-  links-end links k past = subst LinksMay (sym (drop-end links k past)) (λ t. tt)
+  pub stacked-fits : (a : ExprTree Variable) (ps : Posts Variable) → fits_expr (turn_scoping h own t) None a tt → ((items : Items Variable) → fits_element (turn_scoping h own t) (base_of a) items tt)
+      → fits_posts (turn_scoping h own t) ps OtherBase tt → fits_expr (turn_scoping h own t) None (stacked_on a ps) tt
+  stacked-fits a NoPosts fit none rest = fit
+  stacked-fits a (Post p ps) fit none rest = stacked-fits (Postfixed a (Post p NoPosts)) ps (fit, (post-fits p (base_of a) none rest.0, tt)) (λ items. tt) rest.1

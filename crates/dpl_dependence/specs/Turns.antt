@@ -1,9 +1,10 @@
 -- What may stand in each turn of a forall, so that its turns may be made apart.
 use Rattle.std.specs.Prelude.{Option, Some, None, [], map}
-use Rattle.dpl_language.specs.Tree.{ExprTree, ItemTree, One, Links, Items, Stride, StmtTree, Stmts, Else}
+use Rattle.dpl_language.specs.Tree.{ExprTree, ItemTree, One, Links, Posts, Items, Stride, StmtTree, Stmts, Else}
 use Rattle.dpl_language.specs.Values.{Index}
+use Rattle.dpl_language.specs.Phrases.{OtherBase}
 use Rattle.dpl_memory.specs.Memory.{Variable, intents_by_slot}
-use Rattle.dpl_agreement.specs.Scopes.{Scoping, fits_expr, fits_links, fits_item, fits_items, fits_stride, fits, fits_all, fits_else}
+use Rattle.dpl_agreement.specs.Scopes.{Scoping, fits_expr, fits_links, fits_posts, fits_item, fits_items, fits_stride, fits, fits_all, fits_else}
 use Rattle.dpl_nodes.specs.declared.step.Names.{Names}
 use Rattle.dpl_nodes.specs.declared.tree.IntExpr.{IntExpr}
 use Rattle.dpl_nodes.specs.declared.tree.BoolExpr.{BoolExpr}
@@ -41,9 +42,19 @@ module _ (rules : TurnRules) where
   abbrev pub MayEvaluateOwn : ExprTree Variable → Type 0
   MayEvaluateOwn e = (t : Index) → fits_expr (allowed t) (Some t) e tt
 
-  -- the further operands of a chain that each turn may evaluate once
+  -- the further operands of a chain that each turn may evaluate once, at each index, or at its own one
   abbrev pub MayLink : Links Variable → Type 0
   MayLink links = (t : Index) → fits_links (allowed t) None links tt
+
+  abbrev pub MayLinkEach : Links Variable → Type 0
+  MayLinkEach links = (t i : Index) → fits_links (allowed t) (Some i) links tt
+
+  abbrev pub MayLinkOwn : Links Variable → Type 0
+  MayLinkOwn links = (t : Index) → fits_links (allowed t) (Some t) links tt
+
+  -- posts that each turn may evaluate behind what is no array
+  abbrev pub MayPost : Posts Variable → Type 0
+  MayPost posts = (t : Index) → fits_posts (allowed t) posts OtherBase tt
 
   abbrev pub MayEvaluateItem : ItemTree Variable → Type 0
   MayEvaluateItem item = (t : Index) → fits_item (allowed t) None item tt

@@ -1,14 +1,15 @@
 // Expressions in turns: they read no reduce variable, and of arrays that turns write the elements at their own index alone.
 
-ghost use Rattle.std.specs.Prelude.{◌≡◌, true};
+ghost use Rattle.std.specs.Prelude.{◌≡◌, true, [], ◌∷◌};
 ghost use Rattle.dpl_lowered.specs.LoweredExpressions.{EachTurn};
-ghost use Rattle.dpl_nodes.specs.Typed.{int_view, int_links_of, truth_view, range_item, stride_view, ranges_items, index_items, domain_view, promoted_int, promoted_truth};
-ghost use Rattle.dpl_dependence.specs.Turns.{MayEvaluate, MayEvaluateEach, MayLink, MayEvaluateItem, MayEvaluateItems, MayStride};
+ghost use Rattle.dpl_nodes.specs.Typed.{int_view, int_links_of, truth_view, truth_links_of, range_item, range_cuts_of, stride_view, ranges_items, index_items, domain_view, domain_posts_of};
+ghost use Rattle.dpl_nodes.specs.Typed.{promoted_int, promoted_int_links_of, promoted_truth, promoted_truth_links_of};
+ghost use Rattle.dpl_dependence.specs.Turns.{MayEvaluate, MayEvaluateEach, MayLink, MayLinkEach, MayPost, MayEvaluateItem, MayEvaluateItems, MayStride};
 
 use crate::turn::TurnRules;
 use dpl_nodes::{
-    BoolExpr, DomainExpr, IndexExpr, IntExpr, IntLink, PromotedInt, PromotedTruth, RangeExpr,
-    RangesExpr, Stride,
+    BoolExpr, DomainExpr, DomainPost, IndexExpr, IntExpr, IntLink, PromotedInt, PromotedIntLink,
+    PromotedTruth, PromotedTruthLink, RangeCut, RangeExpr, RangesExpr, Stride, TruthLink,
 };
 
 /// Whether each turn may evaluate an int.
@@ -57,12 +58,21 @@ fn may_ints(e: &PromotedInt<'_>, rules: &TurnRules<'_>) -> bool
         PromotedInt::Scalar(a) => may_int(a, rules),
         PromotedInt::Element(slot, _) => rules.may_read_all(*slot),
         PromotedInt::Negative(a) => may_ints(a, rules),
-        PromotedInt::Sum(a, b) => may_ints(a, rules) && may_ints(b, rules),
-        PromotedInt::Difference(a, b) => may_ints(a, rules) && may_ints(b, rules),
-        PromotedInt::Product(a, b) => may_ints(a, rules) && may_ints(b, rules),
-        PromotedInt::Quotient(a, b, _) => may_ints(a, rules) && may_ints(b, rules),
-        PromotedInt::Remainder(a, b, _) => may_ints(a, rules) && may_ints(b, rules),
+        PromotedInt::Chain(first, links) => may_ints(first, rules) && may_ints_links(links, rules),
     }
+}
+
+// Whether each turn may evaluate the further operands of such a chain.
+#[cycle(ints)]
+fn may_ints_links(links: &[PromotedIntLink<'_>], rules: &TurnRules<'_>) -> bool
+    ensures { result ≡ true → MayLinkEach rules.now (promoted_int_links_of EachTurn links.now) }
+{
+    for link in links {
+        if !may_ints(link.right, rules) {
+            return false;
+        }
+    }
+    true
 }
 
 /// Whether each turn may evaluate a range.
@@ -75,9 +85,24 @@ fn may_range(r: &RangeExpr<'_>, rules: &TurnRules<'_>) -> bool
         RangeExpr::Between(low, _, _, high, stride) => {
             may_int(low, rules) && (may_int(high, rules) && may_stride(stride, rules))
         }
-        RangeExpr::Slice(a, b) => may_range(a, rules) && may_range(b, rules),
+        RangeExpr::Slice(a, b, cuts) => {
+            may_range(a, rules) && (may_range(b, rules) && may_cuts(cuts, rules))
+        }
         RangeExpr::Dimension(d, _) => may_domain(d, rules),
     }
+}
+
+// Whether each turn may evaluate the further ranges that a range is sliced by.
+#[cycle(ints)]
+fn may_cuts(cuts: &[RangeCut<'_>], rules: &TurnRules<'_>) -> bool
+    ensures { result ≡ true → MayPost rules.now (range_cuts_of cuts.now) }
+{
+    for cut in cuts {
+        if !may_range(cut.by, rules) {
+            return false;
+        }
+    }
+    true
 }
 
 // Whether each turn may evaluate a stride.
@@ -127,10 +152,33 @@ fn may_domain(d: &DomainExpr<'_>, rules: &TurnRules<'_>) -> bool
         DomainExpr::Local(_) => true,
         DomainExpr::OfArray(_, _) => true,
         DomainExpr::Literal(_, ranges) => may_ranges(ranges, rules),
-        DomainExpr::Slice(a, ranges) => may_domain(a, rules) && may_ranges(ranges, rules),
-        DomainExpr::Expanded(a, _, e) => may_domain(a, rules) && may_int(e, rules),
+        DomainExpr::Posts(a, posts) => may_domain(a, rules) && may_posts(posts, rules),
         DomainExpr::Created(_, a) => may_domain(a, rules),
     }
+}
+
+// Whether each turn may make this of a domain.
+#[cycle(ints)]
+fn may_post(post: &DomainPost<'_>, rules: &TurnRules<'_>) -> bool
+    ensures { result ≡ true → MayPost rules.now (domain_posts_of (post.now ∷ [])) }
+{
+    match post {
+        DomainPost::Slice(ranges) => may_ranges(ranges, rules),
+        DomainPost::Expanded(_, e) => may_int(e, rules),
+    }
+}
+
+// Whether each turn may make all of this of a domain.
+#[cycle(ints)]
+fn may_posts(posts: &[DomainPost<'_>], rules: &TurnRules<'_>) -> bool
+    ensures { result ≡ true → MayPost rules.now (domain_posts_of posts.now) }
+{
+    for post in posts {
+        if !may_post(post, rules) {
+            return false;
+        }
+    }
+    true
 }
 
 /// Whether each turn may evaluate a truth value.
@@ -142,10 +190,7 @@ pub(crate) fn may_truth(e: &BoolExpr<'_>, rules: &TurnRules<'_>) -> bool
         BoolExpr::Truth(_) => true,
         BoolExpr::Local(slot) => rules.may_read(*slot),
         BoolExpr::Not(a) => may_truth(a, rules),
-        BoolExpr::And(a, b) => may_truth(a, rules) && may_truth(b, rules),
-        BoolExpr::Or(a, b) => may_truth(a, rules) && may_truth(b, rules),
-        BoolExpr::Same(a, b) => may_truth(a, rules) && may_truth(b, rules),
-        BoolExpr::Differ(a, b) => may_truth(a, rules) && may_truth(b, rules),
+        BoolExpr::Chain(first, links) => may_truth(first, rules) && may_truth_links(links, rules),
         BoolExpr::Compare(_, a, b) => may_int(a, rules) && may_int(b, rules),
         BoolExpr::Contains(r, a) => may_range(r, rules) && may_int(a, rules),
         BoolExpr::HasIndex(d, index) => may_domain(d, rules) && may_index(index, rules),
@@ -154,6 +199,19 @@ pub(crate) fn may_truth(e: &BoolExpr<'_>, rules: &TurnRules<'_>) -> bool
         }
         BoolExpr::Reduced(_, each, _) => may_truths(each, rules),
     }
+}
+
+// Whether each turn may evaluate the further operands of a chain.
+#[cycle(truths)]
+fn may_truth_links(links: &[TruthLink<'_>], rules: &TurnRules<'_>) -> bool
+    ensures { result ≡ true → MayLink rules.now (truth_links_of links.now) }
+{
+    for link in links {
+        if !may_truth(link.right, rules) {
+            return false;
+        }
+    }
+    true
 }
 
 /// Whether each turn may evaluate a promoted truth value at each index.
@@ -165,10 +223,22 @@ fn may_truths(e: &PromotedTruth<'_>, rules: &TurnRules<'_>) -> bool
         PromotedTruth::Scalar(a) => may_truth(a, rules),
         PromotedTruth::Element(slot, _) => rules.may_read_all(*slot),
         PromotedTruth::Not(a) => may_truths(a, rules),
-        PromotedTruth::And(a, b) => may_truths(a, rules) && may_truths(b, rules),
-        PromotedTruth::Or(a, b) => may_truths(a, rules) && may_truths(b, rules),
-        PromotedTruth::Same(a, b) => may_truths(a, rules) && may_truths(b, rules),
-        PromotedTruth::Differ(a, b) => may_truths(a, rules) && may_truths(b, rules),
+        PromotedTruth::Chain(first, links) => {
+            may_truths(first, rules) && may_truths_links(links, rules)
+        }
         PromotedTruth::Compare(_, a, b) => may_ints(a, rules) && may_ints(b, rules),
     }
+}
+
+// Whether each turn may evaluate the further operands of such a chain.
+#[cycle(truths)]
+fn may_truths_links(links: &[PromotedTruthLink<'_>], rules: &TurnRules<'_>) -> bool
+    ensures { result ≡ true → MayLinkEach rules.now (promoted_truth_links_of EachTurn links.now) }
+{
+    for link in links {
+        if !may_truths(link.right, rules) {
+            return false;
+        }
+    }
+    true
 }

@@ -42,10 +42,7 @@ pub(crate) fn is_own(names: &Names<'_>, index: &IndexExpr<'_>) -> bool
 pub(crate) fn is_among(slot: usize, slots: &[usize]) -> bool
     ensures { result ≡ is_among slot slots.now }
 {
-    match slots {
-        [] => false,
-        [other, rest @ ..] => slot == *other || is_among(slot, rest),
-    }
+    slots.contains(&slot)
 }
 
 /// Whether a slot is that of one of the variables.

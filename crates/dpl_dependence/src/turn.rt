@@ -28,16 +28,12 @@ pub(crate) struct TurnRules<'b> {
 fn operator_at(slot: usize, intents: &[Intent]) -> Option<Op>
     ensures { result ≡ intent_at slot (intents_by_slot (map intent_view intents.now)) }
 {
-    match intents {
-        [] => None,
-        [intent, rest @ ..] => {
-            if slot == intent.slot {
-                Some(intent.op)
-            } else {
-                operator_at(slot, rest)
-            }
+    for intent in intents {
+        if slot == intent.slot {
+            return Some(intent.op);
         }
     }
+    None
 }
 
 // Whether an assignment adds to an int by this operator, in whatever order.

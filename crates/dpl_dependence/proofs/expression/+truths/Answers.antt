@@ -1,13 +1,15 @@
 -- Each form of an expression, by its parts.
-use Rattle.std.proofs.Common.{refl, sym, subst}
+use Rattle.std.proofs.Common.{Some, None, refl, sym, subst, ap, ◌∙◌}
+use Rattle.dpl_syntax.proofs.Walks.{drop-end}
 use Rattle.dpl_lowered.specs.LoweredExpressions.{EachTurn}
 use Rattle.dpl_nodes.specs.declared.tree.BoolExpr.{BoolExpr}
 use Rattle.dpl_nodes.specs.declared.tree.PromotedTruth.{PromotedTruth}
-use Rattle.dpl_nodes.specs.Typed.{truth_view, promoted_truth}
+use Rattle.dpl_nodes.specs.Typed.{truth_view, truth_links_of, promoted_truth, promoted_truth_links_of}
+use Rattle.dpl_nodes.proofs.Chains.{truth_view-chain, truth_links-from, promoted_truth-chain, promoted_truth_links-from}
 use Rattle.dpl_turns.proofs.Typed.{truth_view-fits}
 use Rattle.dpl_dependence.specs.declared.turn.TurnRules.{TurnRules}
-use Rattle.dpl_dependence.specs.Turns.{own_in, changes_by, MayEvaluate, MayEvaluateEach}
-use Rattle.dpl_dependence.proofs.Expressions.{range-fits, index-exprs_fit}
+use Rattle.dpl_dependence.specs.Turns.{own_in, changes_by, MayEvaluate, MayEvaluateEach, MayLink, MayLinkEach}
+use Rattle.dpl_dependence.proofs.Expressions.{grouped-fits, range-fits, index-exprs_fit}
 use Rattle.dpl_dependence.proofs.expression.+truths.Goals as goal
 
 abbrev OfTruth : TurnRules → BoolExpr → Type 0
@@ -20,16 +22,22 @@ pub may_truth-returns-in-Not : goal.may_truth-returns-in-Not
 may_truth-returns-in-Not t c h = subst (OfTruth c.args.rules.now) (sym c.in-Not.is) (c.may_truth.ensures h)
 
 pub may_truth-returns-then-may_truth : goal.may_truth-returns-then-may_truth
-may_truth-returns-then-may_truth t c h = subst (OfTruth c.args.rules.now) (sym c.in-And.is) (λ i. (c.may_truth-in-And.ensures c.if-may_truth.true i, (c.may_truth-then-may_truth.ensures h i, tt)))
+may_truth-returns-then-may_truth t c h =
+    let rules = c.args.rules.now in
+    let first = c.in-Chain.first in
+    let links = c.in-Chain.links in
+    subst (MayEvaluate rules) (sym (ap truth_view c.in-Chain.is ∙ truth_view-chain first links))
+    (λ i. grouped-fits (changes_by rules) (own_in rules) i None (truth_view first.now) (truth_links_of links.now) (c.may_truth-in-Chain.ensures c.if-may_truth.true i) (c.may_truth_links.ensures h i))
 
-pub may_truth-returns-then-may_truth-2 : goal.may_truth-returns-then-may_truth-2
-may_truth-returns-then-may_truth-2 t c h = subst (OfTruth c.args.rules.now) (sym c.in-Or.is) (λ i. (c.may_truth-in-Or.ensures c.if-may_truth-2.true i, (c.may_truth-then-may_truth-2.ensures h i, tt)))
+pub may_truth_links-loop-link-preserved : goal.may_truth_links-loop-link-preserved
+may_truth_links-loop-link-preserved t c all =
+    let rules = c.args.rules.now in
+    let l = c.link-item.result in
+    c.loop-link.invariant
+    (subst (MayLink rules) (sym (truth_links-from c.args.links.now c.loop-link.link-index l c.loop-link-test.true c.link-item.is)) (λ i. (c.may_truth.ensures c.if-not-may_truth.false i, all i)))
 
-pub may_truth-returns-then-may_truth-3 : goal.may_truth-returns-then-may_truth-3
-may_truth-returns-then-may_truth-3 t c h = subst (OfTruth c.args.rules.now) (sym c.in-Same.is) (λ i. (c.may_truth-in-Same.ensures c.if-may_truth-3.true i, (c.may_truth-then-may_truth-3.ensures h i, tt)))
-
-pub may_truth-returns-then-may_truth-4 : goal.may_truth-returns-then-may_truth-4
-may_truth-returns-then-may_truth-4 t c h = subst (OfTruth c.args.rules.now) (sym c.in-Differ.is) (λ i. (c.may_truth-in-Differ.ensures c.if-may_truth-4.true i, (c.may_truth-then-may_truth-4.ensures h i, tt)))
+pub may_truth_links-returns : goal.may_truth_links-returns
+may_truth_links-returns t c h = c.loop-link.invariant (subst (λ ls. MayLink c.args.rules.now (truth_links_of ls)) (sym (drop-end c.args.links.now c.loop-link.link-index c.loop-link-test.false)) (λ i. tt))
 
 pub may_truth-returns-then-may_int : goal.may_truth-returns-then-may_int
 may_truth-returns-then-may_int t c h = subst (OfTruth c.args.rules.now) (sym c.in-Compare.is) (λ i. (c.may_int.ensures c.if-may_int.true i, (c.may_int-then-may_int.ensures h i, tt)))
@@ -53,16 +61,24 @@ pub may_truths-returns-in-Not : goal.may_truths-returns-in-Not
 may_truths-returns-in-Not t c h = subst (OfTruths c.args.rules.now) (sym c.in-Not.is) (c.may_truths.ensures h)
 
 pub may_truths-returns-then-may_truths : goal.may_truths-returns-then-may_truths
-may_truths-returns-then-may_truths t c h = subst (OfTruths c.args.rules.now) (sym c.in-And.is) (λ i j. (c.may_truths-in-And.ensures c.if-may_truths.true i j, (c.may_truths-then-may_truths.ensures h i j, tt)))
+may_truths-returns-then-may_truths t c h =
+    let rules = c.args.rules.now in
+    let first = c.in-Chain.first in
+    let links = c.in-Chain.links in
+    subst (MayEvaluateEach rules) (sym (ap (promoted_truth EachTurn) c.in-Chain.is ∙ promoted_truth-chain EachTurn first links))
+    (λ i j. grouped-fits (changes_by rules) (own_in rules) i (Some j) (promoted_truth EachTurn first.now) (promoted_truth_links_of EachTurn links.now) (c.may_truths-in-Chain.ensures c.if-may_truths.true i j) (c.may_truths_links.ensures h i j))
 
-pub may_truths-returns-then-may_truths-2 : goal.may_truths-returns-then-may_truths-2
-may_truths-returns-then-may_truths-2 t c h = subst (OfTruths c.args.rules.now) (sym c.in-Or.is) (λ i j. (c.may_truths-in-Or.ensures c.if-may_truths-2.true i j, (c.may_truths-then-may_truths-2.ensures h i j, tt)))
+pub may_truths_links-loop-link-preserved : goal.may_truths_links-loop-link-preserved
+may_truths_links-loop-link-preserved t c all =
+    let rules = c.args.rules.now in
+    let l = c.link-item.result in
+    c.loop-link.invariant
+    (subst (MayLinkEach rules) (sym (promoted_truth_links-from EachTurn c.args.links.now c.loop-link.link-index l c.loop-link-test.true c.link-item.is))
+      (λ i j. (c.may_truths.ensures c.if-not-may_truths.false i j, all i j)))
 
-pub may_truths-returns-then-may_truths-3 : goal.may_truths-returns-then-may_truths-3
-may_truths-returns-then-may_truths-3 t c h = subst (OfTruths c.args.rules.now) (sym c.in-Same.is) (λ i j. (c.may_truths-in-Same.ensures c.if-may_truths-3.true i j, (c.may_truths-then-may_truths-3.ensures h i j, tt)))
-
-pub may_truths-returns-then-may_truths-4 : goal.may_truths-returns-then-may_truths-4
-may_truths-returns-then-may_truths-4 t c h = subst (OfTruths c.args.rules.now) (sym c.in-Differ.is) (λ i j. (c.may_truths-in-Differ.ensures c.if-may_truths-4.true i j, (c.may_truths-then-may_truths-4.ensures h i j, tt)))
+pub may_truths_links-returns : goal.may_truths_links-returns
+may_truths_links-returns t c h =
+    c.loop-link.invariant (subst (λ ls. MayLinkEach c.args.rules.now (promoted_truth_links_of EachTurn ls)) (sym (drop-end c.args.links.now c.loop-link.link-index c.loop-link-test.false)) (λ i j. tt))
 
 pub may_truths-returns-then-may_ints : goal.may_truths-returns-then-may_ints
 may_truths-returns-then-may_ints t c h = subst (OfTruths c.args.rules.now) (sym c.in-Compare.is) (λ i j. (c.may_ints.ensures c.if-may_ints.true i j, (c.may_ints-then-may_ints.ensures h i j, tt)))
