@@ -26,11 +26,12 @@ use Rattle.dpl_readings.specs.Written.{slot_of, written_among}
 use Rattle.dpl_readings.proofs.Standing.{steps_in-of}
 use Rattle.dpl_nodes.specs.Spots.{IsNear}
 use Rattle.dpl_nodes.specs.Roots.{slot_by}
-use Rattle.dpl_nodes.specs.Typed.{range_view, range_item, domain_view}
+use Rattle.dpl_nodes.specs.Typed.{range_item, domain_view}
 use Rattle.dpl_nodes.specs.Steps.{listed, steps_of}
 use Rattle.dpl_nodes.specs.declared.step.Step.{Step}
 use Rattle.dpl_nodes.specs.declared.tree.DomainExpr.{DomainExpr}
-use Rattle.dpl_nodes.specs.declared.tree.RangeExpr.{RangeExpr, Local as RangeLocal, Between', Slice', Dimension'}
+use Rattle.dpl_nodes.specs.declared.tree.RangeExpr.{RangeExpr}
+use Rattle.dpl_nodes.proofs.Underived.{item-underived}
 use Rattle.dpl_says.specs.Given.{given}
 use Rattle.dpl_given.specs.Words.{words_in}
 use Rattle.dpl_bound.specs.Bounds.{bound_program, slots_of}
@@ -48,17 +49,8 @@ use Rattle.dpl_run.proofs.TurnsMap.{turns-dealt}
 use Rattle.dpl_run.proofs.Recorded.{loops-entered}
 
 -- ---- a forall as a typed statement: over a range its turns are dealt out as over no name, over a domain by the name that the call is handed
-range-rootless : (r : RangeExpr) → slot_by (derived_from (range_view r)) ≡ None
-range-rootless (RangeLocal slot) = refl
-range-rootless (Between' p low at dots q high stride) = refl
-range-rootless (Slice' p r q cut) = range-rootless r
-range-rootless (Dimension' p d n) = refl
-
 pub range-origin : (r : RangeExpr) → slot_by (derived_item (range_item r)) ≡ None
-range-origin (RangeLocal slot) = refl
-range-origin (Between' p low at dots q high stride) = refl
-range-origin (Slice' p r q cut) = range-rootless r
-range-origin (Dimension' p d n) = refl
+range-origin r = item-underived r
 
 pub domain-origin : (d : DomainExpr) → slot_by (derived_item (One (domain_view d))) ≡ slot_by (derived_from (domain_view d))
 domain-origin d = refl
