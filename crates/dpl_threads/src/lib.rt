@@ -7,36 +7,12 @@ ghost use Rattle.std.specs.Prelude.{◌≡◌, IfOk};
 
 pub use core::thread::Anything;
 use core::thread::Stack;
-use std::snapshot::Snapshot;
 use std::thread::{Promise, PromisedHandle, Scope, SpawnError};
 
-/// The stack that a thread is started with, in bytes: for the longest texts, whose expressions are read and run by calls within calls.
-const LARGE_STACK: usize = 1 << 30;
+/// The stack that a thread is started with, in bytes: more than four times what the deepest nesting needs.
+const STACK: usize = 1 << 21;
 
-/// The stack where so much isn't given: four times what the deepest nesting needs, and more.
-const SMALL_STACK: usize = 1 << 21;
-
-/// A promise, of which a ghost copy alone is kept, since one start may be tried behind another.
-#[derive(Drop)]
-pub struct Kept<P> {
-    pub copy: Snapshot<P>,
-}
-
-impl<T, P: Promise<T>> Promise<T> for Kept<P> {
-    ghost kept_by = { λ kept r. P.kept_by kept.copy.value r };
-}
-
-impl<P> Kept<P> {
-    fn of(promise: &P) -> Kept<P>
-        ensures { result.copy.value ≡ promise.now }
-    {
-        Kept {
-            copy: Snapshot::of(promise),
-        }
-    }
-}
-
-/// Starts a thread in a scope, on the large stack or else on the small one. What it hands back keeps the promise.
+/// Starts a thread in a scope. What it hands back keeps the promise.
 ///
 /// # Errors
 /// No thread could be made.
@@ -44,18 +20,12 @@ pub fn start<'s, E, P: Promise<T> + Drop, F: FnOnce() -> T + Send + Drop + 's, T
     scope: &Scope<'s, E>,
     promise: P,
     task: F,
-) -> Result<PromisedHandle<T, Kept<P>>, SpawnError<F>>
+) -> Result<PromisedHandle<T, P>, SpawnError<F>>
     requires runs { F.pre task }
     requires keeps { (r : T) → F.post task r → P.kept_by promise r }
-    ensures ok { IfOk result (λ handle. handle.promise.copy.value ≡ promise) }
+    ensures ok { IfOk result (λ handle. handle.promise ≡ promise) }
 {
-    match Stack::new()
-        .stack_size(LARGE_STACK)
-        .spawn_scoped_with(scope, Kept::of(&promise), task)
-    {
-        Ok(handle) => Ok(handle),
-        Err(refused) => Stack::new()
-            .stack_size(SMALL_STACK)
-            .spawn_scoped_with(scope, Kept::of(&promise), refused.value),
-    }
+    Stack::new()
+        .stack_size(STACK)
+        .spawn_scoped_with(scope, promise, task)
 }
