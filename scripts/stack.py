@@ -42,14 +42,14 @@ TEXTS = {
 
 
 def mapped_stacks(pid):
-    """The used KB of each mapping that is large enough for a thread's stack, and is one: of 1 GiB, or of 2 MiB."""
+    """The used KB of each mapping that is large enough for a thread's stack, and is one: of 2 MiB."""
     used, size = [], 0
     with open(f"/proc/{pid}/smaps", encoding="ascii") as table:
         for line in table:
             word, *rest = line.split()
             if word == "Size:":
                 size = int(rest[0])
-            elif word == "Rss:" and size in (1 << 20, 1 << 11):
+            elif word == "Rss:" and size == 1 << 11:
                 used.append(int(rest[0]))
     return used
 
