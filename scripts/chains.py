@@ -47,12 +47,21 @@ FORMS = {
     "whole arrays": (
         lambda k: "const D = {1..3}; var A: [D] int = 2; var B: [D] int; B = " + chained("A*3", "+A*3", k) + "; writeln(B);",
         lambda k: " ".join([str(6 * (k + 1))] * 3), 4, False),
+    "whole truth values": (
+        lambda k: "const D = {1..3}; var A: [D] bool = true; var B: [D] bool; B = " + chained("A", "!=A", k) + "; writeln(B);",
+        lambda k: " ".join([["true", "false"][k % 2]] * 3), 3, False),
+    "comparisons": (
+        lambda k: "var n = 0; for i in 1..3 do if " + chained("(i==1)", "!=(i==2)", k) + " then n += i; writeln(n);",
+        lambda k: "3" if k % 2 else "1", 8, False),
     "reduction": (
         lambda k: "const D = {1..3}; var A: [D] int = 2; writeln(+ reduce (" + chained("A", "+A", k) + "));",
         lambda k: str(6 * (k + 1)), 2, False),
     "expansions": (
         lambda k: "const D = {1..3}; writeln(" + chained("D", ".expand(0)", k) + ".size);",
         lambda k: "3", 10, False),
+    "slices of a domain": (
+        lambda k: "const D = {1..3, 1..4}; writeln(" + chained("D", "[1..2,1..4]", k) + ".size);",
+        lambda k: "8" if k else "12", 11, False),
     "slices": (
         lambda k: "const r = 1..3; writeln(" + chained("r", "[1..2]", k) + ".size);",
         lambda k: "2" if k else "3", 6, False),
