@@ -1,5 +1,5 @@
 -- The foralls of a tree stand where some of its statements do, in their order, whatever is in sight of them.
-use Rattle.std.proofs.Common.{◌≡◌, inl, List, [], ◌∷◌, ◌++◌, map, refl, sym, subst}
+use Rattle.std.proofs.Common.{inl, List, [], ◌∷◌, ◌++◌, map, refl, sym, subst}
 use Rattle.std.proofs.lemmas.List.{map-append}
 use Rattle.dpl_syntax.specs.declared.place.Place.{Place}
 use Rattle.dpl_language.specs.Names.{Text}
@@ -9,7 +9,7 @@ use Rattle.dpl_rules.specs.Loops.{in_loop, behind}
 use Rattle.dpl_rules.specs.Foralls.{ForallIn, forall_by, foralls, body_foralls, all_foralls, else_foralls}
 use Rattle.dpl_places.specs.Statements.{stmt_places, body_places, stmts_places, else_places}
 use Rattle.dpl_places.specs.Rising.{IsPart}
-use Rattle.dpl_places.proofs.Parts.{part-none, part-later, part-both}
+use Rattle.dpl_places.proofs.Parts.{part-later, part-both}
 
 abbrev pub forall_places : List ForallIn → List Place
 forall_places fs = map (λ f. f.at) fs

@@ -8,14 +8,14 @@ use Rattle.dpl_syntax.specs.declared.token.Keyword.{Keyword}
 use Rattle.dpl_syntax.specs.declared.token.Keyword.TheVariants as word_of
 use Rattle.dpl_syntax.specs.Text.{start}
 use Rattle.dpl_language.specs.Names.{Text}
-use Rattle.dpl_language.specs.Tree.{Placed, TargetTree, Block, BlockBody, HeadWord, WhileWord, OnWord, LoopWord, ForallWord, CoforallWord}
+use Rattle.dpl_language.specs.Tree.{Placed, Block, BlockBody, HeadWord, WhileWord, OnWord, LoopWord, ForallWord, CoforallWord}
 use Rattle.dpl_grammar.specs.Rule.{Deep, below, deep}
 use Rattle.dpl_grammar.proofs.Values.{OfRule, of_any}
 use Rattle.dpl_grammar.proofs.Values.{of_either as made_either, of_parts as made_parts, of_part as made_part, of_last as made_last, of_deeper as made_deeper, of_done as made_done}
 use Rattle.dpl_spelling.specs.Nested.{Statement, StatementBelow, PlainBelow, nested, Rule, Late}
 use Rattle.dpl_spelling.specs.Expressions.{name}
 use Rattle.dpl_spelling.specs.Declarations.{declare_end, declaration, config_declaration}
-use Rattle.dpl_spelling.specs.Statements.{element, target_end, assignment_end, call_end, named_statement, output, stmts_of, block, part, body, Condition, condition, Conditional, consequence, Otherwise, alternative, if_else, LoopHead, loop_head, headed, for_loop, parallel_loop, ParallelHead, parallel_head, simple_statement, plain_statement, statement}
+use Rattle.dpl_spelling.specs.Statements.{element, target_end, assignment_end, call_end, named_statement, output, stmts_of, block, part, body, condition, consequence, alternative, if_else, loop_head, headed, for_loop, parallel_loop, parallel_head, simple_statement, plain_statement, statement}
 use Rattle.dpl_spelling.specs.Grammar.{Program, top, tops, program, grammar}
 use Rattle.dpl_spelling.specs.Theorem.{Spells}
 use Rattle.dpl_places.specs.Statements.{target_place, stmt_places, body_places, stmts_places}
