@@ -1,3 +1,5 @@
+-- Sample programs, and where their statements stand.
+pub mod Worked
 -- Parts of lists.
 pub mod Parts
 -- The tokens of a text stand at places that rise.
