@@ -1,6 +1,7 @@
 -- The statements of a tree that tokens spell stand where some of the tokens do, in their order, rule by rule of the grammar.
 -- Expressions and types have no statements, so nothing is asked of their rules.
 use Rattle.std.proofs.Common.{◌≡◌, ℕ, zero, suc, Bool, List, [], ◌∷◌, ◌++◌, Option, Some, None, refl, ap}
+use Rattle.std.specs.Prelude.{flat_map}
 use Rattle.std.proofs.lemmas.List.{append-nil}
 use Rattle.dpl_syntax.specs.declared.place.Place.{Place}
 use Rattle.dpl_syntax.specs.declared.token.Token.{Token}
@@ -21,9 +22,9 @@ use Rattle.dpl_spelling.specs.Theorem.{Spells}
 use Rattle.dpl_places.specs.Statements.{target_place, stmt_places, body_places, stmts_places}
 use Rattle.dpl_places.specs.Rising.{IsPart}
 use Rattle.dpl_places.proofs.Tokens.{places}
-use Rattle.dpl_places.proofs.Taken.{Anything, all_taken, never_takes, RuleTakes, LateTakes, of_token, of_nowhere, of_either, of_many, of_whole, of_none, of_both, of_part, of_made, of_skip, of_deeper, of_deeper_skip, of_parts, of_means, of_closed, of_lower, of_choice, of_ended, of_dangling}
+use Rattle.dpl_places.proofs.Taken.{Anything, never_takes, RuleTakes, LateTakes, of_token, of_nowhere, of_either, of_many, of_whole, of_none, of_both, of_part, of_made, of_skip, of_deeper, of_deeper_skip, of_parts, of_means, of_closed, of_lower, of_choice, of_ended, of_dangling}
 
-all-stmts : (ss : List Statement) → stmts_places (stmts_of ss) ≡ all_taken stmt_places ss
+all-stmts : (ss : List Statement) → stmts_places (stmts_of ss) ≡ flat_map stmt_places ss
 all-stmts [] = refl
 all-stmts (s ∷ ss) = ap (λ ps. stmt_places s ++ ps) (all-stmts ss)
 

@@ -1,6 +1,7 @@
 -- Places of a value that are those of some of the tokens that spell it, in their order: one lemma for each thing that a rule is made of,
 -- so that a grammar shows it rule by rule. What is true of a value whatever its tokens are is told by proofs/Values.antt of dpl_grammar.
 use Rattle.std.proofs.Common.{◌≡◌, inl, inr, Bool, true, false, not, List, [], ◌∷◌, ◌++◌, refl, sym, subst, append_assoc}
+use Rattle.std.specs.Prelude.{flat_map}
 use Rattle.std.proofs.lemmas.List.{map-append, append-nil}
 use Rattle.dpl_syntax.specs.declared.token.Token.{Token}
 use Rattle.dpl_syntax.specs.declared.place.Place.{Place}
@@ -21,11 +22,6 @@ pub record TakesBehind {T : Type 0} (before : List Place) (L : Language T) (take
 -- of each value of a language
 abbrev pub Takes : {T : Type 0} → Language T → (T → List Place) → Type 0
 Takes L taken = TakesBehind [] L taken
-
--- the places of several values
-abbrev pub all_taken : {T : Type 0} → (T → List Place) → List T → List Place
-all_taken taken [] = []
-all_taken taken (x ∷ xs) = taken x ++ all_taken taken xs
 
 -- tokens of which nothing is asked
 abbrev pub Anything : Token → Type 0
@@ -81,14 +77,14 @@ either_takes : {T : Type 0} {L M : Language T} {before : List Place} {taken : T 
 unfolding language.either
 either_takes h k = record { holds = λ v u x s part. elim s [ inl a ↦ h.holds v u x a part | inr b ↦ k.holds v u x b part ] }
 
-each_takes : {T : Type 0} {L : Language T} {taken : T → List Place} → Takes L taken → (u : List Token) (xs : List T) → SpellsEach L u xs → IsPart (all_taken taken xs) (places u)
+each_takes : {T : Type 0} {L : Language T} {taken : T → List Place} → Takes L taken → (u : List Token) (xs : List T) → SpellsEach L u xs → IsPart (flat_map taken xs) (places u)
 each_takes h u [] s = part-none (places u)
 each_takes {taken = taken} h u (x ∷ xs) (a, b, e, s, more) =
-    subst (λ w. IsPart (all_taken taken (x ∷ xs)) (places w)) (sym e) (both-taken (taken x) (all_taken taken xs) a b (h.holds [] a x s refl) (each_takes h b xs more))
+    subst (λ w. IsPart (flat_map taken (x ∷ xs)) (places w)) (sym e) (both-taken (taken x) (flat_map taken xs) a b (h.holds [] a x s refl) (each_takes h b xs more))
 
-many_takes : {T : Type 0} {L : Language T} {taken : T → List Place} → Takes L taken → Takes (language.many L) (all_taken taken)
+many_takes : {T : Type 0} {L : Language T} {taken : T → List Place} → Takes L taken → Takes (language.many L) (flat_map taken)
 unfolding language.many
-many_takes {taken = taken} h = record { holds = λ v u xs s part. both-taken [] (all_taken taken xs) v u part (each_takes h u xs s) }
+many_takes {taken = taken} h = record { holds = λ v u xs s part. both-taken [] (flat_map taken xs) v u part (each_takes h u xs s) }
 
 room_takes : (room : Bool) (class : Class) → Takes (where_room room class) (λ k. k.at ∷ [])
 room_takes true class = token_takes class
@@ -121,7 +117,7 @@ module _ {W : Names} {deep : Deep W} where
   pub of_either : {T : Type 0} {a b : Rule W T} {taken : T → List Place} → RuleTakes deep a taken → RuleTakes deep b taken → RuleTakes deep (either a b) taken
   of_either h k = record { takes = either_takes h.takes k.takes }
 
-  pub of_many : {T : Type 0} {a : Rule W T} {taken : T → List Place} → RuleTakes deep a taken → RuleTakes deep (many a) (all_taken taken)
+  pub of_many : {T : Type 0} {a : Rule W T} {taken : T → List Place} → RuleTakes deep a taken → RuleTakes deep (many a) (flat_map taken)
   of_many h = record { takes = many_takes h.takes }
 
   pub of_whole : {T : Type 0} {lets : T → Bool} {a : Late W T lets} {taken : T → List Place} → LateTakes deep a taken → RuleTakes deep (whole a) taken
