@@ -31,7 +31,10 @@ mutual
   foralls-part (Write w) ss = tt
   foralls-part (Block from ts upto) ss = part-later (forall_places (all_foralls (enter ss) ts)) from (stmts_places ts) (all_foralls-part ts (enter ss))
   foralls-part (If at e first second) ss =
-      let both = both-foralls (body_foralls (enter ss) first) (else_foralls (enter ss) second) (body_places first) (else_places second) (body_foralls-part first (enter ss)) (else_foralls-part second (enter ss)) in
+      let both =
+      both-foralls (body_foralls (enter ss) first) (else_foralls (enter ss) second) (body_places first) (else_places second)
+      (body_foralls-part first (enter ss)) (else_foralls-part second (enter ss))
+      in
       part-later (forall_places (body_foralls (enter ss) first ++ else_foralls (enter ss) second)) at (body_places first ++ else_places second) both
   foralls-part (Headed word at e body) ss = part-later (forall_places (body_foralls (enter ss) body)) at (body_places body) (body_foralls-part body (enter ss))
   foralls-part (Loop word at xs within item intents body) ss =

@@ -69,7 +69,10 @@ begins-rising (k ∷ ks) p q text rest (gap, u, more, e, is, at, lexeme, ends, g
     let behind : Place = after p (joined gap ++ u) in
     let others : RiseFrom behind (places (ks ++ end_at q ∷ [])) = begins-rising ks behind q more rest go in
     let here : IsFrom p k.at = subst (IsFrom p) (sym at) (after-from (joined gap) p) in
-    let past : place_before k.at behind ≡ true = subst (λ r. place_before r behind ≡ true) (sym at) (subst (λ r. place_before (after p (joined gap)) r ≡ true) (sym (after-append (joined gap) u p)) (after-before u (after p (joined gap)) (lexeme_sort k.kind u lexeme).some)) in
+    let past : place_before k.at behind ≡ true =
+    subst (λ r. place_before r behind ≡ true) (sym at) (subst (λ r. place_before (after p (joined gap)) r ≡ true) (sym (after-append (joined gap) u p))
+    (after-before u (after p (joined gap)) (lexeme_sort k.kind u lexeme).some))
+    in
     let on : AllByRecursion (IsFrom p) (places (ks ++ end_at q ∷ [])) = all-from p behind (places (ks ++ end_at q ∷ [])) (after-from (joined gap ++ u) p) others.0 in
     ((here, on), (all-before k.at behind (places (ks ++ end_at q ∷ [])) past others.0, others.1))
 
