@@ -8,7 +8,7 @@ import sys
 
 HOUSE = os.path.dirname(os.path.dirname(os.path.realpath(__file__)))
 # What the contracts of run_text, check, run_checked, Left, dump and Config::new name, by file; but for the clause `allowed` of check, which follows from
-# its clause `unrefused` by a law of the rules (`sound_admitted`).
+# its clause `unrefused` by a law of the rules (`sound_admitted`), and from what it requires by one of places (`stmts-rising`).
 ROOTS = {
     "dpl_run/Headline": ["IsRead", "Says"],
     "dpl_outcome/Settings": ["Settings", "limits_of", "layout_of", "AreLocales", "IsCount", "IsGrid2", "IsGrid3"],

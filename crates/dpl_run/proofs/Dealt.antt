@@ -32,6 +32,9 @@ use Rattle.dpl_nodes.specs.declared.step.Step.{Step}
 use Rattle.dpl_nodes.specs.declared.tree.DomainExpr.{DomainExpr}
 use Rattle.dpl_nodes.specs.declared.tree.RangeExpr.{RangeExpr}
 use Rattle.dpl_nodes.proofs.Underived.{item-underived}
+use Rattle.dpl_places.specs.Statements.{stmts_places}
+use Rattle.dpl_places.specs.Rising.{IsRising}
+use Rattle.dpl_places.proofs.Programs.{foralls-rising}
 use Rattle.dpl_says.specs.Given.{given}
 use Rattle.dpl_given.specs.Words.{words_in}
 use Rattle.dpl_bound.specs.Bounds.{bound_program, slots_of}
@@ -40,6 +43,7 @@ use Rattle.dpl_runnable.proofs.Texts.{program-spelled}
 use Rattle.dpl_run.specs.Entered.{entered_all, Pairwise}
 use Rattle.dpl_run.specs.Recorded.{loop_of}
 use Rattle.dpl_run.specs.Dealing.{IsDealtAlike, DealsAsMeant, IsDealtAsCounted, DealsAsCounted}
+use Rattle.dpl_run.proofs.CountedAt.{count-at}
 use Rattle.dpl_run.specs.Plans.{start_of, IsPlan}
 use Rattle.dpl_run.proofs.Planned.{plan-resolves, planned, sets-fit}
 use Rattle.dpl_run.proofs.Standing.{plan-stands}
@@ -90,11 +94,19 @@ pair-map R Q f h (x ∷ xs) [] p = absurd p
 pair-map R Q f h (x ∷ xs) (z ∷ zs) p = (h x z p.0, pair-map R Q f h xs zs p.1)
 
 pub counted-dealt : (t : ProgramTree Text) (sets : List (List ℕ)) (limits : Limits) (slots : ℕ) (scopes : Scopes) (steps : List Step)
-    → UntaskedStmts t.stmts → DealsAsMeant t sets limits slots scopes steps → DealsAsCounted t sets limits slots scopes steps
-counted-dealt t sets limits slots scopes steps untasked deals layout histories =
+    → UntaskedStmts t.stmts → IsRising (stmts_places t.stmts) → DealsAsMeant t sets limits slots scopes steps → DealsAsCounted t sets limits slots scopes steps
+counted-dealt t sets limits slots scopes steps untasked rising deals layout histories =
     let fs = all_foralls top t.stmts in
     let run = entered_all limits in_memory (steps_in Outside steps) (first_memory (start_of slots scopes sets)) no_deeds in
     subst (λ loops. Pairwise (IsDealtAsCounted layout limits fs) loops run) (sym (loops-entered t untasked (given t sets) limits histories))
     (pair-map (IsDealtAlike layout limits fs) (IsDealtAsCounted layout limits fs) loop_of
-    (λ e r d. record { forall = d.forall; among = d.among; at = d.at; at_run = d.at_run; ranges = d.ranges; map = d.map })
+    (λ e r d. record {
+      forall = d.forall;
+      among = d.among;
+      at = d.at;
+      at_run = d.at_run;
+      ranges = d.ranges;
+      map = d.map;
+      counted = count-at layout (loop_of e) fs d.forall (foralls-rising t.stmts top rising) d.among d.at;
+    })
     (entered_all limits by_name t.stmts (first_state (given t sets) histories) no_deeds) run (deals layout histories))

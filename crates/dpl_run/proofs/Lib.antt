@@ -21,6 +21,7 @@ pub mod TurnsMap
 -- A run that keeps a record of its foralls has on it those that it enters: so what is counted is what is dealt out.
 pub mod RecordKept
 pub mod Recorded
+pub mod CountedAt
 pub mod Dealt
 -- Maps and roots change nothing of what a program writes, and of how it ends (read MapsForgotten last).
 pub mod SeenAlike

@@ -23,6 +23,7 @@ use Rattle.dpl_runnable.proofs.Statements.{program-runnable}
 use Rattle.dpl_runnable.proofs.Plain.{tops-plain}
 use Rattle.dpl_agreement.specs.Untasked.{UntaskedStmts}
 use Rattle.dpl_says.proofs.Untasked.{stmts-untasked, Spells-untasked}
+use Rattle.dpl_places.proofs.Programs.{stmts-rising}
 use Rattle.dpl_run.specs.Headline.{IsProgram}
 use Rattle.dpl_run.specs.Programs.{IsAllowed}
 use Rattle.dpl_run.proofs.Stages.{program-open, program-unrefused}
@@ -61,4 +62,4 @@ module _ (text : List ℕ) (sets : List (List ℕ)) (t : ProgramTree Text) (is :
   program-plain = tops-plain t.stmts top (tt, tt) program-runs (Spells-written 64 is.tokens t is.spells)
 
   pub program-allowed : IsAllowed t
-  program-allowed = record { sound = program-sound; admitted = sound_admitted t program-sound }
+  program-allowed = record { sound = program-sound; admitted = sound_admitted t program-sound; placed = stmts-rising text is.tokens 64 t is.lexes is.spells }

@@ -25,7 +25,7 @@ use Rattle.dpl_nodes.specs.declared.step.Step.{Step}
 use Rattle.dpl_nodes.specs.Roots.{slot_by}
 use Rattle.dpl_says.specs.Given.{given}
 use Rattle.dpl_frame.specs.Dealt.{dealt_by}
-use Rattle.dpl_exchange.specs.Counts.{turns_map, recorded}
+use Rattle.dpl_exchange.specs.Counts.{turns_map, forall_count, count_among, recorded}
 use Rattle.dpl_run.specs.Entered.{Entry, entered_all, Pairwise}
 use Rattle.dpl_run.specs.Recorded.{loop_of}
 use Rattle.dpl_run.specs.Plans.{start_of}
@@ -65,7 +65,8 @@ DealsAsMeant t sets limits slots scopes steps =
     → Pairwise (IsDealtAlike layout limits (all_foralls top t.stmts)) (entered_all limits by_name t.stmts (first_state (given t sets) histories) no_deeds)
     (entered_all limits in_memory (steps_in Outside steps) (first_memory (start_of slots scopes sets)) no_deeds)
 
--- The same of a forall on record: by that map it is counted which elements its turns read that other locales own.
+-- The same of a forall on record: by that map it is counted which elements its turns read that other locales own, and the count takes this forall
+-- of those of the text, of which no other one stands there.
 pub record IsDealtAsCounted (layout : LayoutValue) (limits : Limits) (fs : List ForallIn) (l : LoopRun) (r : Entry Variable Memory) : Type 0 where
   pub forall : ForallIn
   pub among : IsAmong forall fs
@@ -73,6 +74,7 @@ pub record IsDealtAsCounted (layout : LayoutValue) (limits : Limits) (fs : List 
   pub at_run : r.at ≡ forall.at
   pub ranges : l.over ≡ r.ranges
   pub map : run_map layout limits r ≡ counted_map layout forall l
+  pub counted : count_among layout l fs ≡ forall_count layout l forall
 
 -- and of all foralls on the record of the program's run by names, over which the count goes
 abbrev pub DealsAsCounted : ProgramTree Text → List (List ℕ) → Limits → ℕ → Scopes → List Step → Type 0

@@ -12,6 +12,8 @@ use Rattle.dpl_rules.specs.Breaches.{top}
 use Rattle.dpl_rules.specs.Sound.{IsSound}
 use Rattle.dpl_rules.specs.Foralls.{all_foralls}
 use Rattle.dpl_rules.specs.Admitted.{AreAdmitted}
+use Rattle.dpl_places.specs.Statements.{stmts_places}
+use Rattle.dpl_places.specs.Rising.{IsRising}
 use Rattle.dpl_says.specs.Says.{Ending, Means}
 use Rattle.dpl_outcome.specs.declared.outcome.Outcome.{Outcome}
 use Rattle.dpl_run.specs.Headline.{ending}
@@ -29,10 +31,12 @@ AreSpelled tokens t = (text : List ℕ) × Lexes text tokens × Spells 64 tokens
 abbrev pub IsUntasked : ProgramTree Text → Type 0
 IsUntasked t = (tokens : List Token) × AreSpelled tokens t × (first_of task_words tokens ≡ None)
 
--- the tree breaks no rule, and each of its foralls is admitted: it writes at its own index, and reads there what it writes
+-- the tree breaks no rule, and each of its foralls is admitted: it writes at its own index, and reads there what it writes; and its statements stand
+-- at places that rise, no two of them at one
 pub record IsAllowed (t : ProgramTree Text) : Type 0 where
   pub sound : IsSound t
   pub admitted : AreAdmitted (all_foralls top t.stmts)
+  pub placed : IsRising (stmts_places t.stmts)
 
 -- By these histories the program comes to this outcome and writes these bytes, and it comes to no others.
 pub record RunsBy (p : CheckedProgram) (limits : Limits) (histories : List (List Event)) (o : Outcome) (said : List ℕ) : Type 0 where

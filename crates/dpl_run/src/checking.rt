@@ -71,7 +71,7 @@ pub fn check<'s, 't>(
     // What is taken is this program with these sets, and can be run.
     ensures taken { IfOk result (λ c. program_of c ≡ record { tree = program_view program.now; sets = map (λ set. set.now) sets.now }) }
     ensures checked { IfOk result (λ c. IsChecked c) }
-    // It has no refusal, and so it is sound, and its foralls are admitted.
+    // It has no refusal, and so it is sound, and its foralls are admitted; no two of its statements stand at one place.
     ensures unrefused { OnOk result (refusal_of task_words (map (λ set. set.now) sets.now) tokens.now (program_view program.now) ≡ None) }
     ensures allowed { OnOk result (IsAllowed (program_view program.now)) }
     // A refusal is the program's.

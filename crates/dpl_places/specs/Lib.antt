@@ -1,0 +1,3 @@
+-- What serves contracts and proofs alone: where statements stand, and places that rise.
+pub mod Statements
+pub mod Rising
