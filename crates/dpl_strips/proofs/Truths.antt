@@ -4,23 +4,24 @@ use Rattle.std.proofs.Common.{◌≡◌, ◌<◌, ◌≤◌, ℕ, ℤ, pos, Bool
 use Rattle.std.proofs.lemmas.List.{get_or-take}
 use Rattle.std.proofs.lemmas.Option.{slice_get-get_or, slice_get_within, get_or_from_slice_get}
 use Rattle.dpl_array.specs.Elements.{Row, behind}
-use Rattle.dpl_language.specs.Tree.{Kind, ExprTree}
+use Rattle.dpl_language.specs.Tree.{Kind, ExprTree, Links, NoLinks}
 use Rattle.dpl_language.specs.Values.{Value, Fault, Index, Int, Truth, kept_number}
 use Rattle.dpl_language.specs.Expressions.{value_of}
 use Rattle.dpl_language.specs.Environment.{Limits}
-use Rattle.dpl_lowered.specs.Shapes.{nowhere, two}
+use Rattle.dpl_lowered.specs.Shapes.{nowhere, two, grouped}
 use Rattle.dpl_memory.specs.Memory.{Variable, Memory, array_at, held_at, element_as, in_memory}
 use Rattle.dpl_nodes.specs.declared.tree.Comparison.{Comparison}
 use Rattle.dpl_nodes.specs.declared.tree.Comparison.TheVariants as comparison
+use Rattle.dpl_nodes.specs.declared.tree.Junction.{Junction}
+use Rattle.dpl_nodes.specs.declared.tree.Junction.TheVariants as junction
 use Rattle.dpl_nodes.specs.declared.step.Names.{Names}
-use Rattle.dpl_nodes.specs.Typed.{comparison_view}
+use Rattle.dpl_nodes.specs.Typed.{comparison_view, junction_view}
+use Rattle.dpl_nodes.specs.Chains.{IsSoFar}
 use Rattle.dpl_loop.specs.declared.strip.Strip.{Strip}
-use Rattle.dpl_strips.specs.declared.truth_strips.Junction.{Junction}
-use Rattle.dpl_strips.specs.declared.truth_strips.Junction.TheVariants as junction
 use Rattle.dpl_strips.specs.declared.along.Found.{Found}
 use Rattle.dpl_strips.specs.declared.along.Found.TheVariants as found
 use Rattle.dpl_strips.specs.Strips.{Written, IsInOwnTurn, HoldsInTurns}
-use Rattle.dpl_strips.specs.Truths.{TruthsHoldInTurns, RowInTurns, IsFoundAlong, IsWordOf, FoundInTurns, junction_view, joins, compares}
+use Rattle.dpl_strips.specs.Truths.{TruthsHoldInTurns, RowInTurns, IsFoundAlong, IsWordOf, FoundInTurns, joins, compares}
 use Rattle.dpl_strips.proofs.Strips.{take-few}
 
 module _ (limits : Limits) (t : Option Index) (u : Memory) where
@@ -110,3 +111,7 @@ module _
         words k below cap ∙ ap (λ y. kept_number (Truth (compares c x y))) (taken k below),
         λ u turn. whole u x y (left_holds k (omega (arith, below, fewer)) cap u (turn-left k u turn)) (right_holds k (omega (arith, inside k below, small)) cap u (turn-right k u turn)),
       )
+
+-- what holds of a chain so far, of which nothing is left, holds of the whole
+pub so_far-whole : (whole : ExprTree Variable) (left : Links Variable) (Holds : ExprTree Variable → Type 0) → left ≡ NoLinks → IsSoFar whole left Holds → Holds whole
+so_far-whole whole left Holds end so = subst Holds (ap (grouped so.tree) (sym end) ∙ so.same) so.holds

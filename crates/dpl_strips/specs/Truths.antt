@@ -3,15 +3,15 @@
 use Rattle.std.specs.Prelude.{◌≡◌, ◌<◌, ℕ, ℤ, pos, Bool, not, ◌&&◌, ◌||◌, int_lt, int_le, List, length, get_or, slice_get, Some, Result, Ok}
 use Rattle.std.specs.Ordering.{int_eq}
 use Rattle.dpl_array.specs.Elements.{Row, behind}
-use Rattle.dpl_language.specs.Tree.{Kind, Infix, And, Or, Equal, NotEqual}
+use Rattle.dpl_language.specs.Tree.{Kind}
 use Rattle.dpl_language.specs.Values.{Value, Truth, kept_number, Fault}
 use Rattle.dpl_memory.specs.Memory.{Memory, array_at, held_at, element_as}
 use Rattle.dpl_nodes.specs.declared.step.Names.{Names}
 use Rattle.dpl_nodes.specs.declared.tree.Comparison.{Comparison}
 use Rattle.dpl_nodes.specs.declared.tree.Comparison.TheVariants as comparison
+use Rattle.dpl_nodes.specs.declared.tree.Junction.{Junction}
+use Rattle.dpl_nodes.specs.declared.tree.Junction.TheVariants as junction
 use Rattle.dpl_loop.specs.declared.strip.Strip.{Strip}
-use Rattle.dpl_strips.specs.declared.truth_strips.Junction.{Junction}
-use Rattle.dpl_strips.specs.declared.truth_strips.Junction.TheVariants as junction
 use Rattle.dpl_strips.specs.declared.along.Found.{Found}
 use Rattle.dpl_strips.specs.declared.along.Found.TheVariants as found
 use Rattle.dpl_strips.specs.Strips.{Written, IsInOwnTurn}
@@ -51,13 +51,7 @@ abbrev pub FoundInTurns : Names → List Written → (Memory → Result Value Fa
 FoundInTurns names xs meaning kind slot row s (found.Words ws) = ElementsInTurns names xs meaning kind row s ws.now
 FoundInTurns names xs meaning kind slot row s (found.Along at) = RowInTurns names xs meaning kind slot row s at
 
--- OPERATORS: how they stand in a tree, and what they make of two truth values, or of two ints
-abbrev pub junction_view : Junction → Infix
-junction_view junction.And = And
-junction_view junction.Or = Or
-junction_view junction.Same = Equal
-junction_view junction.Differ = NotEqual
-
+-- OPERATORS: what they make of two truth values, or of two ints
 abbrev pub joins : Junction → Bool → Bool → Bool
 joins junction.And x y = x && y
 joins junction.Or x y = x || y

@@ -3,15 +3,15 @@
 
 ghost use Rattle.std.specs.Prelude.{◌≡◌, ◌≤◌, ◌<◌, Bool, not, ℕ, pos, None, map, get_or, length};
 ghost use Rattle.dpl_syntax.specs.declared.place.Place.{Place};
-ghost use Rattle.dpl_language.specs.Tree.{BoolKind, Not, Prefixed};
+ghost use Rattle.dpl_language.specs.Tree.{BoolKind, Not, Prefixed, ExprTree};
 ghost use Rattle.dpl_language.specs.Values.{Truth, kept_number};
 ghost use Rattle.dpl_language.specs.Expressions.{value_of};
 ghost use Rattle.dpl_words.specs.Words.{is_true};
-ghost use Rattle.dpl_lowered.specs.Shapes.{nowhere, two};
-ghost use Rattle.dpl_memory.specs.Memory.{truth_leaf, in_memory};
-ghost use Rattle.dpl_nodes.specs.Typed.{array_named, in_square, index_items, int_view, truth_view, leaf_named, comparison_view};
+ghost use Rattle.dpl_lowered.specs.Shapes.{nowhere, two, grouped};
+ghost use Rattle.dpl_memory.specs.Memory.{Variable, truth_leaf, in_memory};
+ghost use Rattle.dpl_nodes.specs.Typed.{array_named, in_square, index_items, int_view, truth_view, truth_links_of, junction_view, leaf_named, comparison_view};
 ghost use Rattle.dpl_strips.specs.Strips.{written};
-ghost use Rattle.dpl_strips.specs.Truths.{TruthsHoldInTurns, junction_view, joins, compares};
+ghost use Rattle.dpl_strips.specs.Truths.{TruthsHoldInTurns, joins, compares};
 
 use crate::along::take;
 use crate::apply::{each, repeat, with_words};
@@ -23,16 +23,7 @@ use crate::truth::{
 use crate::turn_strips::{elements, turn_ints};
 use dpl_frame::{Arrays, Frame};
 use dpl_loop::{STRIP, Strip};
-use dpl_nodes::{BoolExpr, Comparison, IndexExpr, IntExpr, Names};
-
-/// An operator on two truth values.
-#[derive(Clone, Copy)]
-pub(crate) enum Junction {
-    And,
-    Or,
-    Same,
-    Differ,
-}
+use dpl_nodes::{BoolExpr, Comparison, IndexExpr, IntExpr, Junction, Names, TruthLink};
 
 // What an operator makes of the truth values of a strip, each with the one at the same place on its right.
 fn join(op: Junction, strip: &mut Strip, right: &[i64])
@@ -145,13 +136,36 @@ fn opposites<A: Arrays>(
     oppose(strip);
 }
 
-// What an operator makes of two truth values.
+// A further operand of a chain, behind the truth values so far. So many are wanted.
 #[cycle(truths)]
 #[inline(never)]
-fn joined<A: Arrays>(
-    op: Junction,
-    a: &BoolExpr<'_>,
-    b: &BoolExpr<'_>,
+fn linked<A: Arrays>(
+    link: &TruthLink<'_>,
+    most: usize,
+    names: &Names<'_>,
+    targets: &[Target<'_>],
+    frame: &Frame<A>,
+    strip: &mut Strip,
+)
+    ensures row { strip.new.row ≡ strip.old.row }
+    ensures values { (a : ExprTree Variable) → TruthsHoldInTurns names.now (map written targets.now)
+        (λ u. value_of frame.now.limits in_memory a None u) frame.now.memory strip.old
+        → TruthsHoldInTurns names.now (map written targets.now) (λ u. value_of frame.now.limits in_memory
+        (two a nowhere (junction_view link.now.op) (truth_view link.now.right.now)) None u) frame.now.memory strip.new }
+{
+    let mut right = Strip::none(strip.row);
+    right.size = strip.size.min(most);
+    turn_truths(link.right, names, targets, frame, &mut right);
+    let size = right.size.min(STRIP);
+    join(link.op, strip, &right.words[..size]);
+}
+
+// A chain: its operands go from left to right, and the truth values so far are in the strip.
+#[cycle(truths)]
+#[inline(never)]
+fn chained<A: Arrays>(
+    first: &BoolExpr<'_>,
+    links: &[TruthLink<'_>],
     names: &Names<'_>,
     targets: &[Target<'_>],
     frame: &Frame<A>,
@@ -159,15 +173,13 @@ fn joined<A: Arrays>(
 )
     ensures row { strip.new.row ≡ strip.old.row }
     ensures values { TruthsHoldInTurns names.now (map written targets.now) (λ u. value_of frame.now.limits in_memory
-        (two (truth_view a.now) nowhere (junction_view op) (truth_view b.now)) None u) frame.now.memory strip.new }
+        (grouped (truth_view first.now) (truth_links_of links.now)) None u) frame.now.memory strip.new }
 {
-    let wanted = strip.size;
-    let mut right = Strip::none(strip.row);
-    turn_truths(a, names, targets, frame, strip);
-    right.size = strip.size.min(wanted);
-    turn_truths(b, names, targets, frame, &mut right);
-    let size = right.size.min(STRIP);
-    join(op, strip, &right.words[..size]);
+    let most = strip.size;
+    turn_truths(first, names, targets, frame, strip);
+    for link in links {
+        linked(link, most, names, targets, frame, strip);
+    }
 }
 
 // How two ints compare.
@@ -185,10 +197,10 @@ fn compared<A: Arrays>(
     ensures values { TruthsHoldInTurns names.now (map written targets.now) (λ u. value_of frame.now.limits in_memory
         (two (int_view a.now) nowhere (comparison_view c) (int_view b.now)) None u) frame.now.memory strip.new }
 {
-    let wanted = strip.size;
+    let most = strip.size;
     let mut right = Strip::none(strip.row);
     turn_ints(a, names, targets, frame, strip);
-    right.size = strip.size.min(wanted);
+    right.size = strip.size.min(most);
     turn_ints(b, names, targets, frame, &mut right);
     let size = right.size.min(STRIP);
     compare(c, strip, &right.words[..size]);
@@ -213,10 +225,7 @@ pub fn turn_truths<A: Arrays>(
         BoolExpr::Local(slot) => local(*slot, names, targets, frame, strip),
         BoolExpr::Element(slot, index, _) => element(*slot, index, names, targets, frame, strip),
         BoolExpr::Not(e) => opposites(e, names, targets, frame, strip),
-        BoolExpr::And(a, b) => joined(Junction::And, a, b, names, targets, frame, strip),
-        BoolExpr::Or(a, b) => joined(Junction::Or, a, b, names, targets, frame, strip),
-        BoolExpr::Same(a, b) => joined(Junction::Same, a, b, names, targets, frame, strip),
-        BoolExpr::Differ(a, b) => joined(Junction::Differ, a, b, names, targets, frame, strip),
+        BoolExpr::Chain(first, links) => chained(first, links, names, targets, frame, strip),
         BoolExpr::Compare(c, a, b) => compared(*c, a, b, names, targets, frame, strip),
         _ => strip.size = 0,
     }

@@ -242,24 +242,6 @@ fn negatives<A: Arrays>(
     negate(strip);
 }
 
-// The ints of the first of several operands, no more than are wanted.
-#[cycle(turns)]
-fn operand<A: Arrays>(
-    e: &IntExpr<'_>,
-    names: &Names<'_>,
-    targets: &[Target<'_>],
-    frame: &Frame<A>,
-    strip: &mut Strip,
-)
-    ensures row { strip.new.row ≡ strip.old.row }
-    ensures values { HoldsInTurns names.now (map written targets.now)
-        (λ u. value_of frame.now.limits in_memory (int_view e.now) None u) frame.now.memory strip.new }
-{
-    let wanted = strip.size;
-    turn_ints(e, names, targets, frame, strip);
-    strip.size = strip.size.min(wanted);
-}
-
 // The ints of a dividend, where the divisor is an int that is the same in all turns and isn't 0.
 #[cycle(turns)]
 fn dividends<A: Arrays>(
@@ -275,7 +257,7 @@ fn dividends<A: Arrays>(
         (λ u. value_of frame.now.limits in_memory (int_view a.now) None u) frame.now.memory strip.new }
 {
     match steady(b, names, targets, strip.row, frame) {
-        Some(n) if n != 0 => operand(a, names, targets, frame, strip),
+        Some(n) if n != 0 => turn_ints(a, names, targets, frame, strip),
         _ => strip.size = 0,
     }
 }
@@ -286,6 +268,7 @@ fn dividends<A: Arrays>(
 fn join_strip<A: Arrays>(
     op: Wrapping,
     b: &IntExpr<'_>,
+    most: usize,
     names: &Names<'_>,
     targets: &[Target<'_>],
     frame: &Frame<A>,
@@ -298,17 +281,18 @@ fn join_strip<A: Arrays>(
         (two a nowhere (infix_of op) (int_view b.now)) None u) frame.now.memory strip.new }
 {
     let mut right = Strip::none(strip.row);
-    right.size = strip.size;
+    right.size = most;
     turn_ints(b, names, targets, frame, &mut right);
     let size = right.size.min(STRIP);
     apply(op, strip, Right::Words(&right.words[..size]));
 }
 
-// What an operator makes of the ints so far and of a further operand.
+// What an operator makes of the ints so far and of a further operand, of which so many are wanted.
 #[cycle(turns)]
 fn join<A: Arrays>(
     op: Wrapping,
     b: &IntExpr<'_>,
+    most: usize,
     names: &Names<'_>,
     targets: &[Target<'_>],
     frame: &Frame<A>,
@@ -320,8 +304,9 @@ fn join<A: Arrays>(
         → HoldsInTurns names.now (map written targets.now) (λ u. value_of frame.now.limits in_memory
         (two a nowhere (infix_of op) (int_view b.now)) None u) frame.now.memory strip.new }
 {
-    let Some(right) = right_of(b, names, &*targets, strip.row, strip.size, &*frame) else {
-        join_strip(op, b, names, targets, frame, strip);
+    let size = strip.size.min(most);
+    let Some(right) = right_of(b, names, &*targets, strip.row, size, &*frame) else {
+        join_strip(op, b, size, names, targets, frame, strip);
         return;
     };
     apply(op, strip, right);
@@ -390,6 +375,7 @@ fn divide_alike<A: Arrays>(
 #[cycle(turns)]
 fn linked<A: Arrays>(
     link: &IntLink<'_>,
+    most: usize,
     names: &Names<'_>,
     targets: &[Target<'_>],
     frame: &Frame<A>,
@@ -401,19 +387,21 @@ fn linked<A: Arrays>(
         → HoldsInTurns names.now (map written targets.now) (λ u. value_of frame.now.limits in_memory
         (two a (int_place link.now.op) (int_infix link.now.op) (int_view link.now.right.now)) None u) frame.now.memory strip.new }
 {
+    let b = link.right;
     match link.op {
-        IntOperator::Sum => join(Wrapping::Sum, link.right, names, targets, frame, strip),
+        IntOperator::Sum => join(Wrapping::Sum, b, most, names, targets, frame, strip),
         IntOperator::Difference => join(
             Wrapping::Difference,
-            link.right,
+            b,
+            most,
             names,
             targets,
             frame,
             strip,
         ),
-        IntOperator::Product => join(Wrapping::Product, link.right, names, targets, frame, strip),
-        IntOperator::Quotient(_) => quotients(link.right, names, targets, frame, strip),
-        IntOperator::Remainder(_) => remainders(link.right, names, targets, frame, strip),
+        IntOperator::Product => join(Wrapping::Product, b, most, names, targets, frame, strip),
+        IntOperator::Quotient(_) => quotients(b, names, targets, frame, strip),
+        IntOperator::Remainder(_) => remainders(b, names, targets, frame, strip),
     }
 }
 
@@ -436,9 +424,10 @@ fn chained<A: Arrays>(
         strip.size = 0;
         return;
     }
-    operand(first, names, targets, frame, strip);
+    let most = strip.size;
+    turn_ints(first, names, targets, frame, strip);
     for link in links {
-        linked(link, names, targets, frame, strip);
+        linked(link, most, names, targets, frame, strip);
     }
 }
 
@@ -457,21 +446,22 @@ pub fn turn_ints<A: Arrays>(
     ensures values { HoldsInTurns names.now (map written targets.now)
         (λ u. value_of frame.now.limits in_memory (int_view e.now) None u) frame.now.memory strip.new }
 {
+    let most = strip.size;
     match e {
         IntExpr::Number(_) | IntExpr::Local(_) => leaf(e, names, targets, frame, strip),
         IntExpr::Element(slot, index, _) => element(*slot, index, names, targets, frame, strip),
         IntExpr::Negative(e) => negatives(e, names, targets, frame, strip),
         IntExpr::Sum(a, b) => {
-            operand(a, names, targets, frame, strip);
-            join(Wrapping::Sum, b, names, targets, frame, strip);
+            turn_ints(a, names, targets, frame, strip);
+            join(Wrapping::Sum, b, most, names, targets, frame, strip);
         }
         IntExpr::Difference(a, b) => {
-            operand(a, names, targets, frame, strip);
-            join(Wrapping::Difference, b, names, targets, frame, strip);
+            turn_ints(a, names, targets, frame, strip);
+            join(Wrapping::Difference, b, most, names, targets, frame, strip);
         }
         IntExpr::Product(a, b) => {
-            operand(a, names, targets, frame, strip);
-            join(Wrapping::Product, b, names, targets, frame, strip);
+            turn_ints(a, names, targets, frame, strip);
+            join(Wrapping::Product, b, most, names, targets, frame, strip);
         }
         IntExpr::Quotient(a, b, _) => {
             dividends(a, b, names, targets, frame, strip);

@@ -9,7 +9,7 @@ use Rattle.dpl_lowered.specs.Shapes.{nowhere, two}
 use Rattle.dpl_memory.specs.Memory.{Variable, Memory, in_memory}
 use Rattle.dpl_nodes.specs.Typed.{int_view}
 use Rattle.dpl_nodes.proofs.Chains.{int_view-chain}
-use Rattle.dpl_strips.specs.Strips.{written, HoldsInTurns, IsInOwnTurn, RightHolds, infix_of, right_size, right_word}
+use Rattle.dpl_strips.specs.Strips.{written, HoldsInTurns, IsInOwnTurn, infix_of, right_size, right_word}
 use Rattle.dpl_strips.proofs.Strips.{both-hold, both-at, first-hold}
 use Rattle.dpl_strips.proofs.turn_strips.+turns.Goals as goal
 

@@ -21,13 +21,10 @@ abbrev pub decreases-linked : goal.decreases-linked
 decreases-linked g l = 3 * size-IntLink l.link.now
 
 abbrev pub decreases-chained : goal.decreases-chained
-decreases-chained g l = 3 * max (size-IntExpr l.first.now) (most size-IntLink l.links.now) + 2
-
-abbrev pub decreases-operand : goal.decreases-operand
-decreases-operand g l = 3 * size-IntExpr l.e.now + 1
+decreases-chained g l = 3 * max (size-IntExpr l.first.now) (most size-IntLink l.links.now) + 1
 
 abbrev pub decreases-dividends : goal.decreases-dividends
-decreases-dividends g l = 3 * size-IntExpr l.a.now + 2
+decreases-dividends g l = 3 * size-IntExpr l.a.now + 1
 
 abbrev pub decreases-negatives : goal.decreases-negatives
 decreases-negatives g l = 3 * size-IntExpr l.e.now + 1
