@@ -4,23 +4,24 @@ use Rattle.std.proofs.Common.{◌≡◌, ℤ, Bool, true, false, List, [], ◌�
 use Rattle.std.specs.Prelude.{◌||◌, if◌then◌else◌}
 use Rattle.dpl_syntax.specs.declared.place.Place.{Place}
 use Rattle.dpl_sets.specs.TextDomains.{text_expanded}
-use Rattle.dpl_sets.specs.TextRanges.{TextRange, text_sliced}
-use Rattle.dpl_language.specs.Tree.{ExprTree, Posts, NoPosts, Post, Brackets, Dotted, MethodTree, Contains, Items, FirstItem, NoItems, Exprs, FirstExpr, NoExprs}
+use Rattle.dpl_sets.specs.TextRanges.{TextRange}
+use Rattle.dpl_language.specs.Tree.{ExprTree, Postfixed, Posts, NoPosts, Post, Dotted, MethodTree, Contains, Exprs, FirstExpr, NoExprs}
 use Rattle.dpl_language.specs.Values.{Value, Index, Int, Truth, Range, Domain, all_ranges, index_of, Fault, fault, PastLimit}
-use Rattle.dpl_language.specs.Ranges.{contains_index, range_sliced, all_sliced, bounds_past_limit, too_many, expanded}
+use Rattle.dpl_language.specs.Ranges.{contains_index, range_sliced, bounds_past_limit, too_many, expanded}
 use Rattle.dpl_language.specs.Outcome.{with_ok}
 use Rattle.dpl_language.specs.Environment.{Limits}
-use Rattle.dpl_language.specs.Phrases.{base_of}
-use Rattle.dpl_language.specs.Expressions.{value_of, item_of, items_of, values_of, answer_of, behind}
+use Rattle.dpl_language.specs.Phrases.{OtherBase, base_of}
+use Rattle.dpl_language.specs.Expressions.{value_of, item_of, values_of, answer_of, behind, post_of}
 use Rattle.dpl_lowered.specs.Shapes.{nowhere}
 use Rattle.dpl_memory.specs.Memory.{Variable, Memory, in_memory}
 use Rattle.dpl_nodes.specs.declared.tree.RangeExpr.{RangeExpr, Local}
+use Rattle.dpl_nodes.specs.declared.tree.DomainPost.{DomainPost, Slice', Expanded'}
 use Rattle.dpl_nodes.specs.declared.tree.DomainExpr.{DomainExpr}
 use Rattle.dpl_frame.specs.declared.fault.Turn.{Turn}
 use Rattle.dpl_frame.specs.Faults.{Halt, Tells, as_range}
 use Rattle.dpl_contents.specs.declared.range.RangeWord.{RangeWord}
 use Rattle.dpl_loop.proofs.Folding.{with_ok-ends}
-use Rattle.dpl_nodes.specs.Typed.{range_item, range_view, dotted, in_square, bracketed, domain_view}
+use Rattle.dpl_nodes.specs.Typed.{range_item, range_view, dotted, bracketed, domain_view, domain_post}
 
 -- `contains` of an int
 abbrev pub containing : ExprTree Variable → MethodTree Variable
@@ -46,7 +47,7 @@ expanded-past at k rs = by (bounds_past_limit (text_expanded k rs)) (too_many (t
     by false false h = absurd (h (refl, refl))
 
 module _ (limits : Limits) (w : Memory) where
-  range_view_value : (r : RangeExpr) → value_of limits in_memory (range_view r) None w ≡ item_of limits in_memory (range_item r) None w
+  pub range_view_value : (r : RangeExpr) → value_of limits in_memory (range_view r) None w ≡ item_of limits in_memory (range_item r) None w
   range_view_value (Local slot) = refl
   range_view_value _ = refl
 
@@ -87,50 +88,26 @@ module _ (limits : Limits) (w : Memory) where
       method_answer r (containing e) x (Ok (Truth (contains_index (x ∷ []) (n ∷ [])))) range
       (ap (λ a. with_ok (with_ok a (λ v. with_ok (Ok []) (λ vs. Ok (v ∷ vs)))) (λ vs. Ok (Truth (contains_index (x ∷ []) (index_of vs))))) index)
 
-  -- ---- slices
-  pub slice_ends : {A : Type 0} (may more : Type 0) (wider : may → more) (value : A → Value) (t : Turn) (h : Halt) (r cut : RangeExpr)
-      → Tells {A = RangeWord} may as_range t (Err h) (item_of limits in_memory (range_item r) None w) → Tells more value t (Err h) (value_of limits in_memory (bracketed (range_view r) (range_item cut)) None w)
-  slice_ends may more wider value t h r cut tells =
-      let item = item_of limits in_memory (range_item r) None w in
-      let posts : Posts Variable = Post (Brackets nowhere (FirstItem (range_item cut) NoItems) nowhere) NoPosts in
-      with_ok-ends may more as_range t h item (behind limits in_memory posts (base_of (range_view r)) w) _ value wider (behind_range r posts item refl) tells
+  -- ---- a slice of what is a range
+  pub cut-value : (a : ExprTree Variable) (cut : RangeExpr) (x : TextRange) → value_of limits in_memory a None w ≡ Ok (Range x)
+      → value_of limits in_memory (bracketed a (range_item cut)) None w ≡ with_ok (item_of limits in_memory (range_item cut) None w) (λ v. Ok (Range (range_sliced x (all_ranges (v ∷ [])))))
+  cut-value a cut x h = rw h (by (item_of limits in_memory (range_item cut) None w))
+    where
+      by : (i : Result Value Fault) → with_ok (with_ok (with_ok i (λ v. with_ok (Ok []) (λ vs. Ok (v ∷ vs)))) (λ vs. Ok (Range (range_sliced x (all_ranges vs))))) (λ v. Ok v)
+          ≡ with_ok i (λ v. Ok (Range (range_sliced x (all_ranges (v ∷ [])))))
+      by (Ok v) = refl
+      by (Err f) = refl
 
-  -- behind a range, by what its cut is
-  cut_value : (r cut : RangeExpr) (x : TextRange) (a : Result Value Fault) → item_of limits in_memory (range_item r) None w ≡ Ok (Range x)
-      → item_of limits in_memory (range_item cut) None w ≡ a
-      → value_of limits in_memory (bracketed (range_view r) (range_item cut)) None w
-      ≡ with_ok (with_ok (with_ok a (λ v. with_ok (Ok []) (λ vs. Ok (v ∷ vs)))) (λ vs. Ok (Range (range_sliced x (all_ranges vs))))) (λ v. Ok v)
-  cut_value r cut x a range e =
-      behind_range r (Post (Brackets nowhere (FirstItem (range_item cut) NoItems) nowhere) NoPosts) (Ok (Range x)) range
-      ∙ ap (λ b. with_ok (with_ok (with_ok b (λ v. with_ok (Ok []) (λ vs. Ok (v ∷ vs)))) (λ vs. Ok (Range (range_sliced x (all_ranges vs))))) (λ v. Ok v)) e
+  -- ---- domains: what a post makes of one, and a method
+  pub made-value : (a : ExprTree Variable) (p : DomainPost) (rs : List TextRange) → value_of limits in_memory a None w ≡ Ok (Domain rs)
+      → value_of limits in_memory (Postfixed a (Post (domain_post p) NoPosts)) None w ≡ post_of limits in_memory (domain_post p) OtherBase w (Domain rs)
+  made-value a (Slice' p ranges) rs h = rw h (as_it_is (post_of limits in_memory (domain_post (Slice' p ranges)) OtherBase w (Domain rs)))
+  made-value a (Expanded' at p k) rs h = rw h (as_it_is (post_of limits in_memory (domain_post (Expanded' at p k)) OtherBase w (Domain rs)))
 
-  cut_by : (x : TextRange) (a : Result Value Fault)
-      → with_ok (with_ok (with_ok a (λ v. with_ok (Ok []) (λ vs. Ok (v ∷ vs)))) (λ vs. Ok (Range (range_sliced x (all_ranges vs))))) (λ v. Ok v) ≡ with_ok a (λ v. Ok (Range (range_sliced x (all_ranges (v ∷ [])))))
-  cut_by x (Ok v) = refl
-  cut_by x (Err f) = refl
-
-  pub cut_ends : {A : Type 0} (may more : Type 0) (wider : may → more) (value : A → Value) (t : Turn) (h : Halt) (r cut : RangeExpr) (x : TextRange)
-      → item_of limits in_memory (range_item r) None w ≡ Ok (Range x) → Tells {A = RangeWord} may as_range t (Err h) (item_of limits in_memory (range_item cut) None w)
-      → Tells more value t (Err h) (value_of limits in_memory (bracketed (range_view r) (range_item cut)) None w)
-  cut_ends may more wider value t h r cut x range tells =
-      let item = item_of limits in_memory (range_item cut) None w in
-      with_ok-ends may more as_range t h item (λ (v : Value). Ok (Range (range_sliced x (all_ranges (v ∷ []))))) _ value wider (cut_value r cut x item range refl ∙ cut_by x item) tells
-
-  pub slice_answer : (r cut : RangeExpr) (x y : TextRange) → item_of limits in_memory (range_item r) None w ≡ Ok (Range x)
-      → item_of limits in_memory (range_item cut) None w ≡ Ok (Range y)
-      → value_of limits in_memory (bracketed (range_view r) (range_item cut)) None w ≡ Ok (Range (text_sliced y.value.low y.value.high x))
-  slice_answer r cut x y range e = cut_value r cut x (Ok (Range y)) range e
-
-  -- ---- domains: a method, and a slice
   pub domain_answer : (d : DomainExpr) (m : MethodTree Variable) (rs : List TextRange) (a : Result Value Fault) → value_of limits in_memory (domain_view d) None w ≡ Ok (Domain rs)
       → answer_of limits in_memory m w (Domain rs) ≡ a → value_of limits in_memory (dotted (domain_view d) m) None w ≡ a
   domain_answer d m rs a e answer =
       ap (λ x. with_ok x (behind limits in_memory (Post (Dotted nowhere m) NoPosts) (base_of (domain_view d)) w)) e ∙ ap (λ y. with_ok y (λ v. Ok v)) answer ∙ as_it_is a
-
-  pub domain_slice : (d : DomainExpr) (items : Items Variable) (rs : List TextRange) (a : Result Value Fault) → value_of limits in_memory (domain_view d) None w ≡ Ok (Domain rs)
-      → with_ok (items_of limits in_memory items w) (λ vs. Ok (Domain (all_sliced rs (all_ranges vs)))) ≡ a → value_of limits in_memory (in_square (domain_view d) items) None w ≡ a
-  domain_slice d items rs a e cut =
-      ap (λ x. with_ok x (behind limits in_memory (Post (Brackets nowhere items nowhere) NoPosts) (base_of (domain_view d)) w)) e ∙ ap (λ y. with_ok y (λ v. Ok v)) cut ∙ as_it_is a
 
   -- and whether it has an index
   contains-index : (rs : List TextRange) (q : Result (List Value) Fault)

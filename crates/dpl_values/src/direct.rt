@@ -5,12 +5,12 @@
 ghost use Rattle.std.specs.Prelude.{◌≡◌, true, false, Ok, IfSome};
 ghost use Rattle.dpl_syntax.specs.declared.place.Place.{Place};
 ghost use Rattle.dpl_language.specs.Values.{Int, Truth as TruthValue};
-ghost use Rattle.dpl_values.specs.Meanings.{int_in, linked_in, chain_in, truth_in, element_in};
+ghost use Rattle.dpl_values.specs.Meanings.{int_in, linked_in, chain_in, truth_in, truth_linked_in, truth_chain_in, element_in};
 
 use crate::comparison::holds;
 use dpl_arithmetic::number::{difference, negative, product, quotient, remainder, sum};
 use dpl_frame::{Arrays, Frame};
-use dpl_nodes::{BoolExpr, IndexExpr, IntExpr, IntLink, IntOperator};
+use dpl_nodes::{BoolExpr, IndexExpr, IntExpr, IntLink, IntOperator, Junction, TruthLink};
 
 /// The value of an int, where it is found directly.
 #[inline(always)]
@@ -201,9 +201,46 @@ fn walked_truth<A: Arrays>(e: &BoolExpr<'_>, frame: &Frame<A>, found: &mut bool)
         BoolExpr::Truth(b) => *b,
         BoolExpr::Local(slot) => frame.number(*slot) != 0,
         BoolExpr::Not(e) => !truth(e, frame, found),
-        BoolExpr::And(a, b) => truth(a, frame, found) && truth(b, frame, found),
-        BoolExpr::Or(a, b) => truth(a, frame, found) || truth(b, frame, found),
+        BoolExpr::Chain(first, links) => truth_chained(first, links, frame, found),
         BoolExpr::Element(slot, t, _) => element(*slot, t, frame, found) != 0,
         _ => lost(found) != 0,
     }
+}
+
+// A further operand of a chain, behind the truth value so far.
+#[cycle(direct_truth)]
+#[inline(always)]
+fn truth_linked<A: Arrays>(
+    left: bool,
+    link: &TruthLink<'_>,
+    frame: &Frame<A>,
+    found: &mut bool,
+) -> bool
+    ensures before { found.new ≡ true → found.old ≡ true }
+    ensures value { found.new ≡ true → truth_linked_in frame.now left link.now ≡ Ok (TruthValue result) }
+{
+    match link.op {
+        Junction::And => left && truth(link.right, frame, found),
+        Junction::Or => left || truth(link.right, frame, found),
+        Junction::Same => left == truth(link.right, frame, found),
+        Junction::Differ => left != truth(link.right, frame, found),
+    }
+}
+
+// A chain of truth values. What decides one operator is the left side of the next one.
+#[cycle(direct_truth)]
+fn truth_chained<A: Arrays>(
+    first: &BoolExpr<'_>,
+    links: &[TruthLink<'_>],
+    frame: &Frame<A>,
+    found: &mut bool,
+) -> bool
+    ensures before { found.new ≡ true → found.old ≡ true }
+    ensures value { found.new ≡ true → truth_chain_in frame.now first.now links.now ≡ Ok (TruthValue result) }
+{
+    let mut value = truth(first, frame, found);
+    for link in links {
+        value = truth_linked(value, link, frame, found);
+    }
+    value
 }

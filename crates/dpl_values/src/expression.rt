@@ -4,13 +4,16 @@
 ghost use Rattle.std.specs.Prelude.{None, Ok};
 ghost use Rattle.dpl_language.specs.Values.{Int, Truth as TruthValue, Domain as DomainValue};
 ghost use Rattle.dpl_frame.specs.Faults.{Tells, as_range};
+ghost use Rattle.dpl_contents.specs.Range.{range_word};
 ghost use Rattle.dpl_values.specs.Bounds.{bounds_of};
-ghost use Rattle.dpl_values.specs.Reductions.{MayRefuseReduction, EachInInt, EachInChain, EachInTruth, EachInContained, EachInHasIndex};
-ghost use Rattle.dpl_values.specs.Reductions.{EachInRange, EachInStride, EachInRanges, EachInIndex, EachInDomain};
-ghost use Rattle.dpl_values.specs.Meanings.{int_in, linked_in, chain_in, truth_in, contained_in, has_index_in, range_in, strided_in, domain_in, index_in, element_in, literal_in, sliced_in, range_method_in, domain_method_in};
+ghost use Rattle.dpl_values.specs.Reductions.{MayRefuseReduction, EachInInt, EachInChain, EachInTruth, EachInTruthChain, EachInContained, EachInHasIndex};
+ghost use Rattle.dpl_values.specs.Reductions.{EachInRange, EachInSlices, EachInStride, EachInRanges, EachInIndex, EachInDomain, EachInPost, EachInPosted};
+ghost use Rattle.dpl_values.specs.Meanings.{int_in, linked_in, chain_in, truth_in, truth_linked_in, truth_chain_in, contained_in, has_index_in};
+ghost use Rattle.dpl_values.specs.Meanings.{range_in, cut_in, slices_in, strided_in, domain_in, made_in, posts_in, index_in, element_in, literal_in, sliced_in, range_method_in, domain_method_in};
 
 use crate::comparison::holds;
 use crate::domain::{domain_method, found, sized, small};
+use crate::operator::{decides, joined, operated};
 use crate::range::{Written, bounded, contains, range_method, strided_by};
 use crate::reduction::{reduced_int, reduced_truth};
 use crate::team::Team;
@@ -19,8 +22,8 @@ use dpl_arithmetic::number::{difference, negative, product, quotient, remainder,
 use dpl_domain::Index;
 use dpl_frame::{Alarm, DomainWord, FaultCode, Frame, RangeWord, Truth, Turn};
 use dpl_nodes::{
-    BoolExpr, DomainExpr, DomainMethod, IndexExpr, IntExpr, IntLink, IntOperator, RangeExpr,
-    RangeMethod, RangesExpr, Spot, Stride,
+    BoolExpr, DomainExpr, DomainMethod, DomainPost, IndexExpr, IntExpr, IntLink, RangeCut,
+    RangeExpr, RangeMethod, RangesExpr, Spot, Stride, TruthLink,
 };
 
 // An operand: a leaf at once, and else by a walk.
@@ -142,23 +145,7 @@ fn linked<G: Team>(
         (linked_in frame.now left link.now) }
 {
     let right = operand(link.right, frame, gate, turn)?;
-    match link.op {
-        IntOperator::Sum => Ok(sum(left, right)),
-        IntOperator::Difference => Ok(difference(left, right)),
-        IntOperator::Product => Ok(product(left, right)),
-        IntOperator::Quotient(at) => {
-            if right == 0 {
-                return Err(Alarm::new(FaultCode::ZeroDivisor, *at, turn));
-            }
-            Ok(quotient(left, right))
-        }
-        IntOperator::Remainder(at) => {
-            if right == 0 {
-                return Err(Alarm::new(FaultCode::ZeroDivisor, *at, turn));
-            }
-            Ok(remainder(left, right))
-        }
-    }
+    operated(link.op, left, right, turn)
 }
 
 // A chain: its operands go from left to right, and each operator takes what came so far.
@@ -326,7 +313,7 @@ pub(crate) fn literal<G: Team>(
 // A domain with each dimension between the bounds of its range.
 #[cycle(walk)]
 fn cut<G: Team>(
-    domain: DomainWord,
+    domain: &DomainWord,
     ranges: &RangesExpr<'_>,
     frame: &Frame<G::Kept>,
     gate: &G,
@@ -334,7 +321,7 @@ fn cut<G: Team>(
 ) -> Result<DomainWord, Alarm>
     requires ready { G.is_ready gate.now }
     ensures { Tells (MayRefuseReduction (G.may_refuse gate.now) frame.now (EachInRanges ranges.now)) DomainValue turn.new result
-        (sliced_in frame.now domain ranges.now) }
+        (sliced_in frame.now domain.now ranges.now) }
 {
     match ranges {
         RangesExpr::Line(a) => {
@@ -355,6 +342,53 @@ fn cut<G: Team>(
     }
 }
 
+// What a post makes of a domain.
+#[cycle(walk)]
+#[inline(always)]
+fn made<G: Team>(
+    domain: &DomainWord,
+    post: &DomainPost<'_>,
+    frame: &Frame<G::Kept>,
+    gate: &G,
+    turn: &mut Turn,
+) -> Result<DomainWord, Alarm>
+    requires ready { G.is_ready gate.now }
+    ensures { Tells (MayRefuseReduction (G.may_refuse gate.now) frame.now (EachInPost post.now)) DomainValue turn.new result
+        (made_in frame.now domain.now post.now) }
+{
+    match post {
+        DomainPost::Slice(ranges) => cut(domain, ranges, frame, gate, turn),
+        DomainPost::Expanded(at, k) => {
+            let k = operand(k, frame, gate, turn)?;
+            match domain.expanded(k) {
+                Some(domain) => Ok(domain),
+                None => Err(Alarm::new(FaultCode::PastLimit, **at, turn)),
+            }
+        }
+    }
+}
+
+// A domain, and what is made of it from left to right.
+#[cycle(walk)]
+#[inline(never)]
+fn posted<G: Team>(
+    d: &DomainExpr<'_>,
+    posts: &[DomainPost<'_>],
+    frame: &Frame<G::Kept>,
+    gate: &G,
+    turn: &mut Turn,
+) -> Result<DomainWord, Alarm>
+    requires ready { G.is_ready gate.now }
+    ensures { Tells (MayRefuseReduction (G.may_refuse gate.now) frame.now (EachInPosted d.now posts.now)) DomainValue turn.new result
+        (posts_in frame.now d.now posts.now) }
+{
+    let mut domain = domain_value(d, frame, gate, turn)?;
+    for post in posts {
+        domain = made(&domain, post, frame, gate, turn)?;
+    }
+    Ok(domain)
+}
+
 /// The value of a domain.
 ///
 /// # Errors
@@ -373,18 +407,7 @@ pub fn domain_value<G: Team>(
         DomainExpr::Local(slot) => Ok(frame.domain(*slot)),
         DomainExpr::OfArray(_, slot) => Ok(frame.array_domain(*slot)),
         DomainExpr::Literal(at, ranges) => literal(at, ranges, frame, gate, turn),
-        DomainExpr::Slice(d, ranges) => {
-            let domain = domain_value(d, frame, gate, turn)?;
-            cut(domain, ranges, frame, gate, turn)
-        }
-        DomainExpr::Expanded(d, at, k) => {
-            let domain = domain_value(d, frame, gate, turn)?;
-            let k = operand(k, frame, gate, turn)?;
-            match domain.expanded(k) {
-                Some(domain) => Ok(domain),
-                None => Err(Alarm::new(FaultCode::PastLimit, **at, turn)),
-            }
-        }
+        DomainExpr::Posts(d, posts) => posted(d, posts, frame, gate, turn),
         DomainExpr::Created(_, d) => {
             let domain = domain_value(d, frame, gate, turn)?;
             Ok(small(domain))
@@ -415,6 +438,47 @@ fn stridden<G: Team>(
     }
 }
 
+// What of a range lies between the bounds of another one.
+#[cycle(walk)]
+#[inline(always)]
+fn narrowed<G: Team>(
+    range: &RangeWord,
+    cut: &RangeExpr<'_>,
+    frame: &Frame<G::Kept>,
+    gate: &G,
+    turn: &mut Turn,
+) -> Result<RangeWord, Alarm>
+    requires ready { G.is_ready gate.now }
+    ensures { Tells (MayRefuseReduction (G.may_refuse gate.now) frame.now (EachInRange cut.now)) as_range turn.new result
+        (cut_in frame.now (range_word range.now) cut.now) }
+{
+    let cut = range_value(cut, frame, gate, turn)?;
+    Ok(range.sliced(&cut))
+}
+
+// A range between the bounds of its first cut, and of further ones.
+#[cycle(walk)]
+#[inline(never)]
+fn slices<G: Team>(
+    r: &RangeExpr<'_>,
+    cut: &RangeExpr<'_>,
+    cuts: &[RangeCut<'_>],
+    frame: &Frame<G::Kept>,
+    gate: &G,
+    turn: &mut Turn,
+) -> Result<RangeWord, Alarm>
+    requires ready { G.is_ready gate.now }
+    ensures { Tells (MayRefuseReduction (G.may_refuse gate.now) frame.now (EachInSlices r.now cut.now cuts.now)) as_range turn.new result
+        (slices_in frame.now r.now cut.now cuts.now) }
+{
+    let range = range_value(r, frame, gate, turn)?;
+    let mut range = narrowed(&range, cut, frame, gate, turn)?;
+    for cut in cuts {
+        range = narrowed(&range, cut.by, frame, gate, turn)?;
+    }
+    Ok(range)
+}
+
 /// The value of a range.
 ///
 /// # Errors
@@ -442,11 +506,7 @@ pub(crate) fn range_value<G: Team>(
             };
             stridden(stride, written, frame, gate, turn)
         }
-        RangeExpr::Slice(r, cut) => {
-            let range = range_value(r, frame, gate, turn)?;
-            let cut = range_value(cut, frame, gate, turn)?;
-            Ok(range.sliced(&cut))
-        }
+        RangeExpr::Slice(r, cut, cuts) => slices(r, cut, cuts, frame, gate, turn),
         RangeExpr::Dimension(d, n) => Ok(domain_value(d, frame, gate, turn)?.dimension(*n)),
     }
 }
@@ -507,30 +567,7 @@ pub(crate) fn truth_value<G: Team>(
         BoolExpr::Truth(b) => Ok(Truth::new(*b)),
         BoolExpr::Local(slot) => Ok(Truth::new(frame.number(*slot) != 0)),
         BoolExpr::Not(e) => Ok(Truth::new(!truth_value(e, frame, gate, turn)?.get())),
-        BoolExpr::And(a, b) => {
-            let left = truth_value(a, frame, gate, turn)?;
-            if !left.get() {
-                return Ok(left);
-            }
-            truth_value(b, frame, gate, turn)
-        }
-        BoolExpr::Or(a, b) => {
-            let left = truth_value(a, frame, gate, turn)?;
-            if left.get() {
-                return Ok(left);
-            }
-            truth_value(b, frame, gate, turn)
-        }
-        BoolExpr::Same(a, b) => {
-            let left = truth_value(a, frame, gate, turn)?.get();
-            let right = truth_value(b, frame, gate, turn)?.get();
-            Ok(Truth::new(left == right))
-        }
-        BoolExpr::Differ(a, b) => {
-            let left = truth_value(a, frame, gate, turn)?.get();
-            let right = truth_value(b, frame, gate, turn)?.get();
-            Ok(Truth::new(left != right))
-        }
+        BoolExpr::Chain(first, links) => truth_chained(first, links, frame, gate, turn),
         BoolExpr::Compare(comparison, a, b) => {
             let left = operand(a, frame, gate, turn)?;
             let right = operand(b, frame, gate, turn)?;
@@ -543,4 +580,46 @@ pub(crate) fn truth_value<G: Team>(
         )),
         BoolExpr::Reduced(fold, e, at) => reduced_truth(*fold, e, at, frame, gate, turn),
     }
+}
+
+// A further operand of a chain, behind what came so far.
+#[cycle(truth)]
+#[inline(always)]
+fn truth_linked<G: Team>(
+    left: Truth,
+    link: &TruthLink<'_>,
+    frame: &Frame<G::Kept>,
+    gate: &G,
+    turn: &mut Turn,
+) -> Result<Truth, Alarm>
+    requires ready { G.is_ready gate.now }
+    ensures { Tells (MayRefuseReduction (G.may_refuse gate.now) frame.now (EachInTruth link.now.right.now)) TruthValue turn.new result
+        (truth_linked_in frame.now left link.now) }
+{
+    if decides(link.op, left.get()) {
+        return Ok(left);
+    }
+    let right = truth_value(link.right, frame, gate, turn)?;
+    Ok(Truth::new(joined(link.op, left.get(), right.get())))
+}
+
+// A chain of truth values. What decides one operator is the left side of the next one.
+#[cycle(truth)]
+#[inline(never)]
+fn truth_chained<G: Team>(
+    first: &BoolExpr<'_>,
+    links: &[TruthLink<'_>],
+    frame: &Frame<G::Kept>,
+    gate: &G,
+    turn: &mut Turn,
+) -> Result<Truth, Alarm>
+    requires ready { G.is_ready gate.now }
+    ensures { Tells (MayRefuseReduction (G.may_refuse gate.now) frame.now (EachInTruthChain first.now links.now)) TruthValue turn.new result
+        (truth_chain_in frame.now first.now links.now) }
+{
+    let mut value = truth_value(first, frame, gate, turn)?;
+    for link in links {
+        value = truth_linked(value, link, frame, gate, turn)?;
+    }
+    Ok(value)
 }

@@ -11,6 +11,7 @@ mod direct;
 pub mod domain;
 pub mod expression;
 pub mod fold;
+mod operator;
 pub mod promoted;
 mod range;
 mod reduction;

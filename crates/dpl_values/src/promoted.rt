@@ -6,20 +6,21 @@ ghost use Rattle.dpl_language.specs.Values.{Int, Truth as TruthValue};
 ghost use Rattle.dpl_language.specs.Expressions.{whole_in};
 ghost use Rattle.dpl_lowered.specs.LoweredExpressions.{EachTurn};
 ghost use Rattle.dpl_memory.specs.Memory.{in_memory};
-ghost use Rattle.dpl_values.specs.Reducing.{first_of_ints, first_of_truths};
+ghost use Rattle.dpl_values.specs.Reducing.{first_of_ints, first_of_truths, first_of_int_links, first_of_truth_links};
 ghost use Rattle.dpl_nodes.specs.Typed.{promoted_int, promoted_truth};
 ghost use Rattle.dpl_frame.specs.Faults.{Tells};
-ghost use Rattle.dpl_values.specs.Reductions.{MayRefuseReduction, EachInInts, EachInTruths};
-ghost use Rattle.dpl_values.specs.Meanings.{int_at, truth_at};
+ghost use Rattle.dpl_values.specs.Reductions.{MayRefuseReduction, EachInInts, EachInIntsChain, EachInTruths, EachInTruthsChain};
+ghost use Rattle.dpl_values.specs.Meanings.{int_at, linked_at, chain_at, truth_at, truth_linked_at, truth_chain_at};
 
 use crate::comparison::holds;
 use crate::domain::found;
 use crate::expression::{operand as scalar_operand, truth_value};
+use crate::operator::{decides, joined, operated};
 use crate::team::Team;
-use dpl_arithmetic::number::{difference, negative, product, quotient, remainder, sum};
+use dpl_arithmetic::number::negative;
 use dpl_domain::Index;
-use dpl_frame::{Alarm, Arrays, DomainWord, FaultCode, Frame, Truth, Turn};
-use dpl_nodes::{PromotedInt, PromotedTruth};
+use dpl_frame::{Alarm, Arrays, DomainWord, Frame, Truth, Turn};
+use dpl_nodes::{PromotedInt, PromotedIntLink, PromotedTruth, PromotedTruthLink};
 
 /// The value of an operand at an index: of an element or a scalar at once, and else by a walk.
 ///
@@ -40,12 +41,9 @@ pub fn operand<G: Team>(
     match e {
         PromotedInt::Scalar(e) => scalar_operand(e, frame, gate, turn),
         PromotedInt::Element(slot, at) => found(at, frame.element(*slot, *index), turn),
-        PromotedInt::Negative(_)
-        | PromotedInt::Sum(..)
-        | PromotedInt::Difference(..)
-        | PromotedInt::Product(..)
-        | PromotedInt::Quotient(..)
-        | PromotedInt::Remainder(..) => promoted_int_value(e, index, frame, gate, turn),
+        PromotedInt::Negative(_) | PromotedInt::Chain(..) => {
+            promoted_int_value(e, index, frame, gate, turn)
+        }
     }
 }
 
@@ -68,38 +66,48 @@ pub(crate) fn promoted_int_value<G: Team>(
         PromotedInt::Scalar(e) => scalar_operand(e, frame, gate, turn),
         PromotedInt::Element(slot, at) => found(at, frame.element(*slot, *index), turn),
         PromotedInt::Negative(e) => Ok(negative(operand(e, index, frame, gate, turn)?)),
-        PromotedInt::Sum(a, b) => {
-            let left = operand(a, index, frame, gate, turn)?;
-            let right = operand(b, index, frame, gate, turn)?;
-            Ok(sum(left, right))
-        }
-        PromotedInt::Difference(a, b) => {
-            let left = operand(a, index, frame, gate, turn)?;
-            let right = operand(b, index, frame, gate, turn)?;
-            Ok(difference(left, right))
-        }
-        PromotedInt::Product(a, b) => {
-            let left = operand(a, index, frame, gate, turn)?;
-            let right = operand(b, index, frame, gate, turn)?;
-            Ok(product(left, right))
-        }
-        PromotedInt::Quotient(a, b, at) => {
-            let left = operand(a, index, frame, gate, turn)?;
-            let right = operand(b, index, frame, gate, turn)?;
-            if right == 0 {
-                return Err(Alarm::new(FaultCode::ZeroDivisor, **at, turn));
-            }
-            Ok(quotient(left, right))
-        }
-        PromotedInt::Remainder(a, b, at) => {
-            let left = operand(a, index, frame, gate, turn)?;
-            let right = operand(b, index, frame, gate, turn)?;
-            if right == 0 {
-                return Err(Alarm::new(FaultCode::ZeroDivisor, **at, turn));
-            }
-            Ok(remainder(left, right))
-        }
+        PromotedInt::Chain(first, links) => chained(first, links, index, frame, gate, turn),
     }
+}
+
+// A further operand of a chain, behind what came so far.
+#[cycle(walk)]
+#[inline(always)]
+fn linked<G: Team>(
+    left: i64,
+    link: &PromotedIntLink<'_>,
+    index: &Index,
+    frame: &Frame<G::Kept>,
+    gate: &G,
+    turn: &mut Turn,
+) -> Result<i64, Alarm>
+    requires ready { G.is_ready gate.now }
+    ensures { Tells (MayRefuseReduction (G.may_refuse gate.now) frame.now (EachInInts link.now.right.now)) Int turn.new result
+        (linked_at frame.now left link.now index.now) }
+{
+    let right = operand(link.right, index, frame, gate, turn)?;
+    operated(link.op, left, right, turn)
+}
+
+// A chain: its operands go from left to right, and each operator takes what came so far.
+#[cycle(walk)]
+fn chained<G: Team>(
+    first: &PromotedInt<'_>,
+    links: &[PromotedIntLink<'_>],
+    index: &Index,
+    frame: &Frame<G::Kept>,
+    gate: &G,
+    turn: &mut Turn,
+) -> Result<i64, Alarm>
+    requires ready { G.is_ready gate.now }
+    ensures { Tells (MayRefuseReduction (G.may_refuse gate.now) frame.now (EachInIntsChain first.now links.now)) Int turn.new result
+        (chain_at frame.now first.now links.now index.now) }
+{
+    let mut value = operand(first, index, frame, gate, turn)?;
+    for link in links {
+        value = linked(value, link, index, frame, gate, turn)?;
+    }
+    Ok(value)
 }
 
 /// The value of a promoted truth value at an index. `&&` after false and `||` after true don't look at their right side.
@@ -126,30 +134,7 @@ pub fn promoted_truth_value<G: Team>(
         PromotedTruth::Not(e) => Ok(Truth::new(!promoted_truth_value(
             e, index, frame, gate, turn,
         )?.get())),
-        PromotedTruth::And(a, b) => {
-            let left = promoted_truth_value(a, index, frame, gate, turn)?;
-            if !left.get() {
-                return Ok(left);
-            }
-            promoted_truth_value(b, index, frame, gate, turn)
-        }
-        PromotedTruth::Or(a, b) => {
-            let left = promoted_truth_value(a, index, frame, gate, turn)?;
-            if left.get() {
-                return Ok(left);
-            }
-            promoted_truth_value(b, index, frame, gate, turn)
-        }
-        PromotedTruth::Same(a, b) => {
-            let left = promoted_truth_value(a, index, frame, gate, turn)?.get();
-            let right = promoted_truth_value(b, index, frame, gate, turn)?.get();
-            Ok(Truth::new(left == right))
-        }
-        PromotedTruth::Differ(a, b) => {
-            let left = promoted_truth_value(a, index, frame, gate, turn)?.get();
-            let right = promoted_truth_value(b, index, frame, gate, turn)?.get();
-            Ok(Truth::new(left != right))
-        }
+        PromotedTruth::Chain(first, links) => truth_chained(first, links, index, frame, gate, turn),
         PromotedTruth::Compare(comparison, a, b) => {
             let left = operand(a, index, frame, gate, turn)?;
             let right = operand(b, index, frame, gate, turn)?;
@@ -158,7 +143,51 @@ pub fn promoted_truth_value<G: Team>(
     }
 }
 
+// A further operand of a chain, behind what came so far.
+#[cycle(truth)]
+#[inline(always)]
+fn truth_linked<G: Team>(
+    left: Truth,
+    link: &PromotedTruthLink<'_>,
+    index: &Index,
+    frame: &Frame<G::Kept>,
+    gate: &G,
+    turn: &mut Turn,
+) -> Result<Truth, Alarm>
+    requires ready { G.is_ready gate.now }
+    ensures { Tells (MayRefuseReduction (G.may_refuse gate.now) frame.now (EachInTruths link.now.right.now)) TruthValue turn.new result
+        (truth_linked_at frame.now left link.now index.now) }
+{
+    if decides(link.op, left.get()) {
+        return Ok(left);
+    }
+    let right = promoted_truth_value(link.right, index, frame, gate, turn)?;
+    Ok(Truth::new(joined(link.op, left.get(), right.get())))
+}
+
+// A chain of truth values. What decides one operator is the left side of the next one.
+#[cycle(truth)]
+fn truth_chained<G: Team>(
+    first: &PromotedTruth<'_>,
+    links: &[PromotedTruthLink<'_>],
+    index: &Index,
+    frame: &Frame<G::Kept>,
+    gate: &G,
+    turn: &mut Turn,
+) -> Result<Truth, Alarm>
+    requires ready { G.is_ready gate.now }
+    ensures { Tells (MayRefuseReduction (G.may_refuse gate.now) frame.now (EachInTruthsChain first.now links.now)) TruthValue turn.new result
+        (truth_chain_at frame.now first.now links.now index.now) }
+{
+    let mut value = promoted_truth_value(first, index, frame, gate, turn)?;
+    for link in links {
+        value = truth_linked(value, link, index, frame, gate, turn)?;
+    }
+    Ok(value)
+}
+
 /// The slot of the first whole array in a promoted int, if there is one.
+#[cycle(ints)]
 pub fn int_array(e: &PromotedInt<'_>) -> Option<usize>
     ensures { result ≡ first_of_ints e.now }
 {
@@ -166,18 +195,28 @@ pub fn int_array(e: &PromotedInt<'_>) -> Option<usize>
         PromotedInt::Scalar(_) => None,
         PromotedInt::Element(slot, _) => Some(*slot),
         PromotedInt::Negative(e) => int_array(e),
-        PromotedInt::Sum(a, b)
-        | PromotedInt::Difference(a, b)
-        | PromotedInt::Product(a, b)
-        | PromotedInt::Quotient(a, b, _)
-        | PromotedInt::Remainder(a, b, _) => match int_array(a) {
+        PromotedInt::Chain(first, links) => match int_array(first) {
             Some(slot) => Some(slot),
-            None => int_array(b),
+            None => linked_array(links),
         },
     }
 }
 
+// The same of the further operands of a chain.
+#[cycle(ints)]
+fn linked_array(links: &[PromotedIntLink<'_>]) -> Option<usize>
+    ensures { result ≡ first_of_int_links links.now }
+{
+    for link in links {
+        if let Some(slot) = int_array(link.right) {
+            return Some(slot);
+        }
+    }
+    None
+}
+
 /// The slot of the first whole array in a promoted truth value, if there is one.
+#[cycle(truths)]
 pub fn truth_array(e: &PromotedTruth<'_>) -> Option<usize>
     ensures { result ≡ first_of_truths e.now }
 {
@@ -185,18 +224,28 @@ pub fn truth_array(e: &PromotedTruth<'_>) -> Option<usize>
         PromotedTruth::Scalar(_) => None,
         PromotedTruth::Element(slot, _) => Some(*slot),
         PromotedTruth::Not(e) => truth_array(e),
-        PromotedTruth::And(a, b)
-        | PromotedTruth::Or(a, b)
-        | PromotedTruth::Same(a, b)
-        | PromotedTruth::Differ(a, b) => match truth_array(a) {
+        PromotedTruth::Chain(first, links) => match truth_array(first) {
             Some(slot) => Some(slot),
-            None => truth_array(b),
+            None => linked_truth_array(links),
         },
         PromotedTruth::Compare(_, a, b) => match int_array(a) {
             Some(slot) => Some(slot),
             None => int_array(b),
         },
     }
+}
+
+// The same of the further operands of a chain.
+#[cycle(truths)]
+fn linked_truth_array(links: &[PromotedTruthLink<'_>]) -> Option<usize>
+    ensures { result ≡ first_of_truth_links links.now }
+{
+    for link in links {
+        if let Some(slot) = truth_array(link.right) {
+            return Some(slot);
+        }
+    }
+    None
 }
 
 /// The domain of the first whole array in a promoted int, if there is one.
