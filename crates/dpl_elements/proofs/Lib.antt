@@ -8,4 +8,5 @@ pub mod BoundAgain
 pub mod RowTurns
 pub mod PutAlong
 pub mod Wholes
+pub mod Made
 pub mod Branching

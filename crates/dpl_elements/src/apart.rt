@@ -2,6 +2,7 @@
 
 ghost use Rattle.std.specs.Prelude.{◌≡◌, IfSome};
 ghost use Rattle.dpl_turns.specs.Wholes.{whole_changes};
+ghost use Rattle.dpl_elements.specs.Wholes.{no_changes};
 
 use dpl_loop::Apart;
 
@@ -20,4 +21,18 @@ pub(crate) fn whole_apart<'b>(rank: u32, slot: usize, written: &'b [usize]) -> O
         }),
         _ => None,
     }
+}
+
+/// How turns over a domain of a rank that do nothing are made apart: they change nothing.
+pub(crate) fn made_apart<'b>(rank: u32) -> Option<Apart<'b>>
+    ensures { IfSome result (λ a. a ≡ no_changes rank) }
+{
+    Some(Apart {
+        rank,
+        written: &[],
+        reduced: &[],
+        numbers: &[],
+        ranges: &[],
+        tuples: &[],
+    })
 }

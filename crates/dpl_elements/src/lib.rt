@@ -11,4 +11,4 @@ mod whole;
 pub use crew::Crew;
 pub use element::{set_element, set_truth_element};
 pub use row::{combine, put_along, put_row};
-pub use whole::{WholeTurns, set_array, set_truth_array};
+pub use whole::{WholeTurns, enter_array, set_array, set_truth_array};

@@ -6,13 +6,13 @@ ghost use Rattle.std.specs.Prelude.{◌≡◌, ◌≤◌, ◌⊎◌, List, Some,
 ghost use Rattle.dpl_sets.specs.TextRanges.{TextRange};
 ghost use Rattle.dpl_language.specs.Tree.{IntKind, BoolKind, Set};
 ghost use Rattle.dpl_language.specs.Values.{Int, Truth};
-ghost use Rattle.dpl_language.specs.Outcome.{Deeds, with_value};
+ghost use Rattle.dpl_language.specs.Outcome.{Deeds, Done, with_value};
 ghost use Rattle.dpl_language.specs.Loops.{within_budget, named_turn};
 ghost use Rattle.dpl_language.specs.Expressions.{value_of, whole_in};
 ghost use Rattle.dpl_language.specs.Assignments.{change};
 ghost use Rattle.dpl_language.specs.Statements.{exec};
 ghost use Rattle.dpl_lowered.specs.LoweredExpressions.{EachTurn};
-ghost use Rattle.dpl_memory.specs.Memory.{in_memory};
+ghost use Rattle.dpl_memory.specs.Memory.{array_at, in_memory};
 ghost use Rattle.dpl_nodes.specs.Typed.{promoted_int, promoted_truth};
 ghost use Rattle.dpl_nodes.specs.Steps.{array_leaf, whole_set};
 ghost use Rattle.dpl_elements.specs.Changes.{signed};
@@ -24,7 +24,7 @@ ghost use Rattle.dpl_values.specs.Reductions.{MayRefuseReduction, EachInInts, Ea
 ghost use Rattle.dpl_elements.specs.Refusals.{MayRefuseWhole};
 ghost use Rattle.dpl_elements.specs.Wholes.{filled, promoted, whole_turn};
 
-use crate::apart::whole_apart;
+use crate::apart::{made_apart, whole_apart};
 use crate::crew::Crew;
 use crate::element::{change, change_truth};
 use crate::row::put_row;
@@ -192,6 +192,8 @@ pub enum WholeTurns<'e, 'x> {
     Promote(Promote<'e, 'x>),
     FillTruth(FillTruth<'e>),
     PromoteTruth(PromoteTruth<'e, 'x>),
+    /// Over indices of this rank, where the array has its values already: nothing is left to be done.
+    Made(u32),
 }
 
 impl<'e, 'x> WholeTurns<'e, 'x> {
@@ -211,7 +213,7 @@ impl<'e, 'x> WholeTurns<'e, 'x> {
         match self {
             WholeTurns::Fill(turns) => turns.make_strip(row, most, strip, frame),
             WholeTurns::Promote(turns) => turns.make_strip(row, most, strip, frame),
-            WholeTurns::FillTruth(_) | WholeTurns::PromoteTruth(_) => 0,
+            WholeTurns::FillTruth(_) | WholeTurns::PromoteTruth(_) | WholeTurns::Made(_) => 0,
         }
     }
 }
@@ -226,6 +228,7 @@ impl<'e, 'x> Turns for WholeTurns<'e, 'x> {
             WholeTurns::Promote(turns) => turns.make(index, frame),
             WholeTurns::FillTruth(turns) => turns.make(index, frame),
             WholeTurns::PromoteTruth(turns) => turns.make(index, frame),
+            WholeTurns::Made(_) => Ok(()),
         }
     }
 
@@ -258,6 +261,7 @@ impl<'e, 'x> Turns for WholeTurns<'e, 'x> {
             WholeTurns::Promote(turns) => turns.apart(),
             WholeTurns::FillTruth(turns) => turns.apart(),
             WholeTurns::PromoteTruth(turns) => turns.apart(),
+            WholeTurns::Made(rank) => made_apart(*rank),
         }
     }
 }
@@ -440,4 +444,27 @@ pub fn set_truth_array<C: Crew>(
         None => set_truth_once(name, sign, e, domain, frame, crew),
         Some(_) => set_truth_each(name, sign, e, domain, frame, crew),
     }
+}
+
+/// The turns of an assignment to the whole array in a slot that has its values already, as one that was filled where it was declared. For each
+/// index its owner enters the gate, unless the gate is open, and does nothing more.
+///
+/// # Errors
+/// Out of memory; a worker was not started; or the gate refused an entry, which it may.
+#[inline(never)]
+pub fn enter_array<C: Crew>(
+    slot: usize,
+    frame: &mut Frame<C::Kept>,
+    crew: &C,
+) -> Result<(), RunStop>
+    requires ready { C.is_ready crew.now }
+    ensures ends { (done : Deeds)
+        → RunsTo (MayRefuse (C.may_refuse crew.now) (owned_by frame.old slot) (array_at slot frame.old.memory).ranges) result frame.new.memory done
+        (Done frame.old.memory done) }
+    ensures limits { frame.new.limits ≡ frame.old.limits }
+{
+    let domain = frame.array_domain(slot);
+    let map = frame.owner(slot);
+    let turns = WholeTurns::Made(domain.rank());
+    crew.make_whole(&turns, domain, &map, frame)
 }

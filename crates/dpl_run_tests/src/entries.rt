@@ -40,14 +40,25 @@ pub(crate) const ENTRIES: &str = "\
 - <- ! F5 at 1:33~ <- var A: [1..1001] int; writeln(+ reduce A);\n\
 # Behind the fault of an index no other enters.\n\
 0 <- ! F2 at 1:40 in turn 1~ <- var A: [1..2] int; writeln(+ reduce (6 / A));\n\
-# An initial value with a whole array enters by the map of the declared array; one without has no turns.\n\
+# An initial value is an assignment to the declared array, and enters by its map, whether or not a whole array stands in it.\n\
 123 <- 1 1 1~ <- const D = {1..3} dmapped new cyclicDist(startIdx=0); var A: [D] int; var B: [D] int = A + 1; writeln(B);\n\
-- <- true true~ <- var A: [1..2] bool = true; writeln(A);\n\
+123 <- true false true~ <- const D = {1..3} dmapped new cyclicDist(startIdx=0); var A: [D] int; A[2] = 4; var B: [D] bool = A < 4; writeln(B);\n\
+00 <- 3 3~ <- var A: [1..2] int = 3; writeln(A);\n\
+00 <- true true~ <- var A: [1..2] bool = true; writeln(A);\n\
+123 <- false false false~ <- const D = {1..3} dmapped new cyclicDist(startIdx=0); var B: [D] bool = 1 > 2; writeln(B);\n\
+0123 <- 5 5~5 5~ <- const D = {1..2, 1..2} dmapped new blockDist(boundingBox={1..2, 1..2}); var A: [D] int = 5; writeln(A);\n\
+0011223300112233 <- 3~ <- const D = {1..16} dmapped new blockCycDist(startIdx=1, blocksize=2); var A: [D] int = 3; writeln(A[16]);\n\
+1122 <- 5 5 5 5~ <- const D = {1..8} dmapped new blockDist(boundingBox={1..8}); var A: [D[3..6]] int = 5; writeln(A);\n\
+23/00 <- 7 7~ <- const D = {1..2} dmapped new cyclicDist(startIdx=-1); var A: [D] int; var B: [1..2] int = (+ reduce A) + 7; writeln(B);\n\
+- <- 0 0|0~ <- var A: [1..2] int; var B: [1..0] int = 3; writeln(A, '|', B.domain.size);\n\
 # More indices than the budget are told before any entry, and so is a fault of what the loop runs over.\n\
-- <- ! F5 at 1:1~ <- forall i in 1..1001 { }";
+- <- ! F5 at 1:1~ <- forall i in 1..1001 { }\n\
+- <- ! F5 at 1:22~ <- var A: [1..1001] int = 3;\n\
+- <- ! F2 at 1:23~ <- var A: [1..2] int = 1 / 0;\n\
+0 <- ! F2 at 1:54 in turn 1~ <- const D = {1..2}; var A: [D] int; var B: [D] int = 6 / A;";
 
 // Reductions that take several indices at once, where the gate is open.
 pub(crate) const STRIPS: &str = "\
-0000000000000000000000000000000000000000 <- 80~ <- var A: [1..40] int = 2; writeln(+ reduce A);\n\
-00000000000000000111111111111111112222222222222222233333333333333333 <- 340~ <- const D = {1..68} dmapped new blockDist(boundingBox={1..68}); var A: [D] int = 3; writeln(+ reduce (A * 2 - 1));\n\
-000000000000000000111111111111111111222222222222222222333333333333333333 <- 72~ <- const D = {1..2, 1..36} dmapped new blockDist(boundingBox={1..2, 1..36}); var A: [D] int = 1; writeln(+ reduce A);";
+0000000000000000000000000000000000000000 <- 80~ <- var A: [1..40] int; writeln(+ reduce (A + 2));\n\
+00000000000000000111111111111111112222222222222222233333333333333333 <- 340~ <- const D = {1..68} dmapped new blockDist(boundingBox={1..68}); var A: [D] int; writeln(+ reduce (A * 2 + 5));\n\
+000000000000000000111111111111111111222222222222222222333333333333333333 <- 72~ <- const D = {1..2, 1..36} dmapped new blockDist(boundingBox={1..2, 1..36}); var A: [D] int; A[1, 1] = 70; A[2, 36] = 2; writeln(+ reduce A);";

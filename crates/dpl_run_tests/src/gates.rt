@@ -150,7 +150,7 @@ fn rows_of<R: Abort + Threads + Wait + Sync>(
 
 #[test]
 fn entries(rt: HostRuntime) {
-    assert_eq!(rt; rows_of(&rt, rt.alloc(), ENTRIES, Maps::AsIs), 30);
+    assert_eq!(rt; rows_of(&rt, rt.alloc(), ENTRIES, Maps::AsIs), 41);
     assert_eq!(rt; rows_of(&rt, rt.alloc(), STRIPS, Maps::AsIs), 3);
 }
 
@@ -161,18 +161,24 @@ fn roots(rt: HostRuntime) {
     assert_eq!(rt; rows_of(&rt, rt.alloc(), CYCLES, Maps::Cyclic), 4);
 }
 
-// How many entries a program asks for, and what it writes. Where the gate is open the turns of the first six are made at once;
-// a gate that counts sees each turn all the same. The others have no loop that a worker enters.
+// How many entries a program asks for, and what it writes. Where the gate is open most of these programs make their turns at once; a gate that
+// counts sees each turn all the same, also those of an initial value. The last three programs have no loop that a worker enters.
 const COUNTS: &str = "\
 40 <- 80~ <- var A: [1..40] int; forall i in 1..40 do A[i] = i * 2; writeln(A[40]);\n\
-40 <- 123~ <- var A: [0..41] int = 3; var B: [1..40] int; forall i in 1..40 do B[i] = A[i-1] + A[i+1] * i; writeln(B[40]);\n\
-40 <- 11~ <- var A: [1..40] int = 5; A = A * 2 + 1; writeln(A[40]);\n\
-40 <- 200~ <- var A: [1..40] int = 5; writeln(+ reduce A);\n\
+82 <- 123~ <- var A: [0..41] int = 3; var B: [1..40] int; forall i in 1..40 do B[i] = A[i-1] + A[i+1] * i; writeln(B[40]);\n\
+80 <- 11~ <- var A: [1..40] int = 5; A = A * 2 + 1; writeln(A[40]);\n\
+80 <- 200~ <- var A: [1..40] int = 5; writeln(+ reduce A);\n\
+40 <- 5~ <- var A: [1..40] int; A[40] = 5; writeln(+ reduce A);\n\
 80 <- 80~ <- const D = {1..2, 1..40} dmapped new blockDist(boundingBox={1..2, 1..40}); var A: [D] int; forall (i, j) in D do A[i, j] = i * j; writeln(A[2, 40]);\n\
 32 <- 136~ <- const D = {1..16} dmapped new blockCycDist(startIdx=1, blocksize=2); var A: [D] int; forall i in D do A[i] = i; writeln(+ reduce A);\n\
+40 <- 7~ <- var A: [1..40] int = 7; writeln(A[40]);\n\
+40 <- true~ <- var A: [1..40] bool = true; writeln(A[40]);\n\
+40 <- 1~ <- const D = {1..40}; var A: [D] int; var B: [D] int = A + 1; writeln(B[40]);\n\
+80 <- 8~ <- const D = {1..40}; var A: [D] int = 7; var B: [D] int = A + 1; writeln(B[40]);\n\
+16 <- 3~ <- const D = {1..16} dmapped new blockCycDist(startIdx=1, blocksize=2); var A: [D] int = 3; writeln(A[16]);\n\
+6 <- 1 1 1~2 2 2~ <- for i in 1..2 { var A: [1..3] int = i; writeln(A); }\n\
 0 <- 2~ <- var x = 1; x = x + 1; writeln(x);\n\
 0 <- 5~ <- var A: [1..3] int; A[2] = 5; writeln(A[2]);\n\
-0 <- 7~ <- var A: [1..40] int = 7; writeln(A[40]);\n\
 0 <- 6~ <- var s = 0; for i in 1..3 do s += i; if s > 5 then writeln(s);";
 
 // A program that asks for so many entries, by a gate that lets so many pass. Each of up to four workers ends at its first refusal.
@@ -213,7 +219,7 @@ fn gates_that_count(rt: HostRuntime) {
         }
         rows = rows.saturating_add(1);
     }
-    assert_eq!(rt; rows, 10);
+    assert_eq!(rt; rows, 16);
 }
 
 // Programs in which the workers 0 and 1 of four make two turns each, or more, of one loop, or fold two items each of one reduction. The last
@@ -223,12 +229,15 @@ const MEETINGS: &str = "\
 1 2 3 4 5 6 7 8~ <- const D = {1..8} dmapped new blockDist(boundingBox={1..8}); var A: [D] int; forall i in D do A[i] = i; writeln(A);\n\
 36~ <- const D = {1..8} dmapped new blockDist(boundingBox={1..8}); var s: int; forall i in D with (+ reduce s) do s += i; writeln(s);\n\
 5 5 5 5 5 5 5 5~ <- const D = {1..8} dmapped new cyclicDist(startIdx=1); var A: [D] int; A = 5; writeln(A);\n\
+3 3 3 3 3 3 3 3~ <- const D = {1..8} dmapped new blockDist(boundingBox={1..8}); var A: [D] int = 3; writeln(A);\n\
+4 4 4 4~4 4 4 4~ <- const D = {1..2, 1..4} dmapped new blockDist(boundingBox={1..2, 1..4}); var A: [D] int = 4; writeln(A);\n\
+true true true true true true true true~ <- const D = {1..8} dmapped new cyclicDist(startIdx=1); var B: [D] bool = true; writeln(B);\n\
 2 0 4 0 6 0 8 0~ <- const D = {1..8} dmapped new blockDist(boundingBox={1..8}); var A: [D] int; forall i in D { if i % 2 == 1 then A[i] = i + 1; } writeln(A);\n\
 2 4 6 8 10 12 14 16~ <- const D = {1..8} dmapped new blockDist(boundingBox={1..8}); var A: [D] int; forall i in 1..8 do A[i] = 2 * i; writeln(A);\n\
 2 3 4 5~3 4 5 6~ <- const D = {1..2, 1..4} dmapped new blockDist(boundingBox={1..2, 1..4}); var A: [D] int; forall (i, j) in D do A[i, j] = i + j; writeln(A);\n\
-24~ <- const D = {1..8} dmapped new blockDist(boundingBox={1..8}); var A: [D] int = 3; writeln(+ reduce A);\n\
--5~ <- const D = {1..8} dmapped new cyclicDist(startIdx=1); var A: [D] int = 3; var x = 1 - 2 * (max reduce A); writeln(x);\n\
-true~ <- const D = {1..8} dmapped new blockDist(boundingBox={1..8}); var A: [D] int = 3; if && reduce (A > 2) then writeln(true);\n\
+24~ <- const D = {1..8} dmapped new blockDist(boundingBox={1..8}); var A: [D] int; writeln(+ reduce (A + 3));\n\
+-5~ <- const D = {1..8} dmapped new cyclicDist(startIdx=1); var A: [D] int; var x = 1 - 2 * (max reduce (A + 3)); writeln(x);\n\
+true~ <- const D = {1..8} dmapped new blockDist(boundingBox={1..8}); var A: [D] int; if && reduce (A > -1) then writeln(true);\n\
 false~ <- const D = {1..8} dmapped new blockDist(boundingBox={1..8}); var B: [D] bool; writeln(|| reduce B);\n\
 1 2 3 4 5 6 7 8|8 7 6 5 4 3 2 1~ <- const D = {1..8} dmapped new blockDist(boundingBox={1..8}); const E = {1..8} dmapped new cyclicDist(startIdx=1); var A: [D] int; var B: [E] int; forall i in D { A[i] = i; B[i] = 9 - i; } writeln(A, '|', B);\n\
 3 6 9 12 15 18 21 24|0 1 2 3 4 5 6 7 8 0~ <- const D = {1..8} dmapped new cyclicDist(startIdx=1); const E = {0..9} dmapped new blockCycDist(startIdx=0, blocksize=2); var A: [D] int; var B: [E] int; forall i in D { A[i] = 3 * i; B[i] = i; } writeln(A, '|', B);";
@@ -245,7 +254,7 @@ fn meetings(rt: HostRuntime) {
         assert!(&rt; said == Ok(bytes_of(&rt, rt.alloc(), bytes)), "{text}");
         rows = rows.saturating_add(1);
     }
-    assert_eq!(rt; rows, 13);
+    assert_eq!(rt; rows, 16);
 }
 
 // What can't be made apart is made by one thread, at which no two workers meet.

@@ -36,7 +36,7 @@ pub(crate) const NAMED: &str = "\
 # An array has the map of its domain's root; over ranges or a literal it is a root.\n\
 00112233 <-  <- const D = {1..8} dmapped new blockDist(boundingBox={1..8}); var A: [D] int; A = 7;\n\
 00112233 <-  <- const D = {1..8} dmapped new blockDist(boundingBox={1..8}); var A: [(D)] bool; A = true;\n\
-1122 <-  <- const D = {1..8} dmapped new blockDist(boundingBox={1..8}); var A: [D[3..6]] int = 5; var B: [A.domain] int; B = 7;\n\
+1122 <-  <- const D = {1..8} dmapped new blockDist(boundingBox={1..8}); var A: [D[3..6]] int; var B: [A.domain] int; B = 7;\n\
 00000000 <-  <- const D = {1..8} dmapped new blockDist(boundingBox={1..8}); var A: [1..8] int; var B: [D.dim(0)] int; B = 7;\n\
 # A slot that is used again has no map of before.\n\
 0000 <- 4 <- { const D = {1..4} dmapped new cyclicDist(startIdx=1); } const E = {1..4}; var n = 0; forall p in E with (+ reduce n) do n += 1; write(n);\n\

@@ -28,7 +28,7 @@ use dpl_loop::stop::told;
 use dpl_nodes::{BoolExpr, Else, RangeExpr, Spot, Step, StepWord};
 use dpl_range::Range;
 use dpl_simple::{
-    declare_array, declare_domain, direct_statement, direct_statements, is_met, set_domain, simple,
+    declare_array_by, declare_domain, direct_statement, direct_statements, is_met, set_domain, simple,
 };
 use dpl_values::{Team, direct_truth, range_value, truth_value};
 
@@ -160,7 +160,7 @@ fn any_statement<'t, C: Context>(
             *slot, beginning, placing, frame, context,
         ),
         Step::SetDomain(name, e) => set_domain(name, e, frame, context),
-        Step::DeclareArray(declared) => declare_array(declared, frame, context),
+        Step::DeclareArray(declared) => declare_array_by(declared, frame, context),
         Step::SetElement(name, t, op, sign, e) => simple::element(
             name, t, *op, sign, e, frame, context,
         ),

@@ -23,7 +23,7 @@ use Rattle.dpl_array.proofs.WalkLemmas.{walk-next, walk-end}
 use Rattle.dpl_loop.proofs.Ends.{then_do-halts, halts-alike, ends-alike}
 use Rattle.dpl_values.specs.Reductions.{EachInInts, EachInTruths, EachInRange, EachInDomain}
 use Rattle.dpl_elements.proofs.Dealing.{ends-wider, some-of-whole}
-use Rattle.dpl_steps.proofs.Refusing.{some-of-forall, some-of-array}
+use Rattle.dpl_steps.proofs.Refusing.{some-of-forall, some-of-declared}
 use Rattle.dpl_elements.proofs.Changing.{gives-halts, exec-declared, exec-assigned}
 use Rattle.dpl_steps.proofs.Looping.{in_order-done, in_order-halts, for-domain, in_turn-done, in_turn-halts, for-turns, repeated-fault, repeated-ends, repeated-step, holds-fault, exec-headed}
 use Rattle.dpl_elements.proofs.Branching.{scoped-same, holds-value, if-then}
@@ -162,9 +162,9 @@ statement::any_statement-returns-in-DeclareArray-clause-ends g t c done =
     let having = g.C.Context.having in
     let standing = g.C.Context.standing in
     let d = having c.args.out.now done in
-    ends-wider _ _ c.declare_array.result c.declare_array.new.frame.memory d _ _
-    (some-of-array _ c.args.frame.now c.in-DeclareArray.declared.now)
-    (ap (λ s. exec c.args.frame.now.limits in_memory (step_in standing s) c.args.frame.now.memory d) c.in-DeclareArray.is) (c.declare_array.ensures.ends d)
+    ends-wider _ _ c.declare_array_by.result c.declare_array_by.new.frame.memory d _ _
+    (some-of-declared _ c.args.frame.now c.in-DeclareArray.declared.now)
+    (ap (λ s. exec c.args.frame.now.limits in_memory (step_in standing s) c.args.frame.now.memory d) c.in-DeclareArray.is) (c.declare_array_by.ensures.ends d)
 
 pub statement::any_statement-returns-in-SetElement-clause-ends : goal.statement::any_statement-returns-in-SetElement-clause-ends
 statement::any_statement-returns-in-SetElement-clause-ends g t c done =

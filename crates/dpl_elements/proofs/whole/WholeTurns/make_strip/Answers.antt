@@ -26,3 +26,6 @@ returns-in-FillTruth-clause-done g c = none-done _ c.args.row c.args.frame.now.m
 
 pub returns-in-FillTruth-2-clause-done : goal.returns-in-FillTruth-2-clause-done
 returns-in-FillTruth-2-clause-done g c = none-done _ c.args.row c.args.frame.now.memory
+
+pub returns-in-FillTruth-3-clause-done : goal.returns-in-FillTruth-3-clause-done
+returns-in-FillTruth-3-clause-done g c = none-done _ c.args.row c.args.frame.now.memory
