@@ -106,7 +106,7 @@ may_ints_links-loop-link-preserved t c all =
     let l = c.link-item.result in
     c.loop-link.invariant
     (subst (MayLinkEach rules) (sym (promoted_int_links-from EachTurn c.args.links.now c.loop-link.link-index l c.loop-link-test.true c.link-item.is))
-      (λ i j. (c.may_ints.ensures c.if-not-may_ints.false i j, all i j)))
+    (λ i j. (c.may_ints.ensures c.if-not-may_ints.false i j, all i j)))
 
 pub may_ints_links-returns : goal.may_ints_links-returns
 may_ints_links-returns t c h =
@@ -120,8 +120,8 @@ may_range-returns-then-may_range-2 t c h =
     let cuts = c.in-Slice.cuts in
     subst (MayEvaluateItem rules) (sym (ap range_item c.in-Slice.is ∙ ap One (range_view-slice c.in-Slice.a c.in-Slice.b cuts)))
     (λ i. stacked-fits (changes_by rules) (own_in rules) i (bracketed (range_view r) (range_item cut)) (range_cuts_of cuts.now)
-      (range-fits (changes_by rules) (own_in rules) i r (c.may_range.ensures c.if-may_range.true i), (((c.may_range-then-may_range.ensures c.if-may_range-2.true i, tt), range-base_fits (changes_by rules) (own_in rules) i r _), tt))
-      (λ items. tt) (c.may_cuts.ensures h i))
+    (range-fits (changes_by rules) (own_in rules) i r (c.may_range.ensures c.if-may_range.true i), (((c.may_range-then-may_range.ensures c.if-may_range-2.true i, tt), range-base_fits (changes_by rules) (own_in rules) i r _), tt))
+    (λ items. tt) (c.may_cuts.ensures h i))
 
 pub may_cuts-loop-cut-preserved : goal.may_cuts-loop-cut-preserved
 may_cuts-loop-cut-preserved t c all =
@@ -161,7 +161,7 @@ may_domain-returns-then-may_domain t c h =
     let posts = c.in-Posts.posts in
     subst (MayEvaluate rules) (sym (ap domain_view c.in-Posts.is ∙ domain_view-posts d posts))
     (λ i. stacked-fits (changes_by rules) (own_in rules) i (domain_view d.now) (domain_posts_of posts.now) (c.may_domain.ensures c.if-may_domain.true i)
-      (domain-base_fits (changes_by rules) (own_in rules) i d.now) (c.may_posts.ensures h i))
+    (domain-base_fits (changes_by rules) (own_in rules) i d.now) (c.may_posts.ensures h i))
 
 pub may_post-returns-in-Slice : goal.may_post-returns-in-Slice
 may_post-returns-in-Slice t c h = subst (λ p. MayPost c.args.rules.now (domain_posts_of (p ∷ []))) (sym c.in-Slice.is) (λ i. ((c.may_ranges.ensures h i, tt), tt))

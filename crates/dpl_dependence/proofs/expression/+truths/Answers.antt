@@ -74,7 +74,7 @@ may_truths_links-loop-link-preserved t c all =
     let l = c.link-item.result in
     c.loop-link.invariant
     (subst (MayLinkEach rules) (sym (promoted_truth_links-from EachTurn c.args.links.now c.loop-link.link-index l c.loop-link-test.true c.link-item.is))
-      (λ i j. (c.may_truths.ensures c.if-not-may_truths.false i j, all i j)))
+    (λ i j. (c.may_truths.ensures c.if-not-may_truths.false i j, all i j)))
 
 pub may_truths_links-returns : goal.may_truths_links-returns
 may_truths_links-returns t c h =
