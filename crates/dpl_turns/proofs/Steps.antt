@@ -1,5 +1,5 @@
 -- Typed statements in a turn: what is to be tested of each, so that it fits and is silent.
-use Rattle.std.proofs.Common.{[], ◌≡◌, ℕ, true, false, Some, None, refl, sym, subst}
+use Rattle.std.proofs.Common.{◌≡◌, ℕ, true, false, Some, None, refl, sym, subst}
 use Rattle.dpl_syntax.specs.declared.place.Place.{Place}
 use Rattle.dpl_language.specs.Tree.{Assign, Kind, IntKind, BoolKind, ExprTree, ItemTree, One, StmtTree, Block, If, Headed, Stmts, Then, Else, ElseDo}
 use Rattle.dpl_language.specs.Values.{Index}
