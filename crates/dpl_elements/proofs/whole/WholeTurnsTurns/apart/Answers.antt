@@ -28,6 +28,6 @@ returns-in-PromoteTruth c = subst (Tells c.apart-in-PromoteTruth.result) (sym c.
 
 pub returns-in-Made : goal.returns-in-Made
 returns-in-Made c =
-    let rank = c.in-Made.rank.now in
+    let rank = c.in-Made.rank in
     subst (Tells c.made_apart.result) (sym c.in-Made.is)
     (IfSome_then c.made_apart.result c.made_apart.ensures (λ h is limits. subst (λ h. MayBeApart h (whole_turn (Made rank) limits)) (sym is) (made-apart limits rank)))
