@@ -1,4 +1,5 @@
 pub mod OneSaying
 pub mod Untasked
+pub mod HistoriesFree
 pub mod Anywhere
 pub mod Worked

@@ -1,14 +1,15 @@
 // Statements that are done directly: what is done to an int whose number is found so, and an `if` over one of these.
 // Whoever runs statements asks here first, and on that way needs no room for a fault. What isn't done so leaves the frame as it was, and is begun anew.
+// Nothing of what is done so is seen or noted, whatever is to come.
 
 ghost use Rattle.std.specs.Prelude.{◌≡◌, ◌≤◌, true, false, Ok, drop, length};
 ghost use Rattle.dpl_language.specs.Values.{Truth as TruthValue};
-ghost use Rattle.dpl_language.specs.Outcome.{Deeds, Done};
 ghost use Rattle.dpl_language.specs.Statements.{exec, exec_all, exec_else};
-ghost use Rattle.dpl_memory.specs.Memory.{in_memory};
 ghost use Rattle.dpl_readings.specs.Readings.{step_in, else_in, steps_in};
 ghost use Rattle.dpl_values.specs.Meanings.{truth_in};
 ghost use Rattle.dpl_standing.specs.Standing.{Standing};
+ghost use Rattle.dpl_coming.specs.Noting.{Note, noting};
+ghost use Rattle.dpl_coming.specs.Walks.{Site, Known, IsDoneUnseen, Goes};
 
 use crate::change::direct_number;
 use dpl_frame::{Arrays, Frame};
@@ -30,8 +31,8 @@ pub fn is_met<A: Arrays>(condition: &BoolExpr<'_>, frame: &Frame<A>) -> bool
 #[cycle(direct)]
 #[inline(always)]
 pub fn direct_statement<A: Arrays>(step: &Step<'_>, frame: &mut Frame<A>) -> bool
-    ensures done { result ≡ true → (w : Standing) (done : Deeds)
-        → exec frame.old.limits in_memory (step_in w step.now) frame.old.memory done ≡ Done frame.new.memory done }
+    ensures done { result ≡ true → (w : Standing)
+        → IsDoneUnseen frame.old.memory frame.new.memory (λ note. exec frame.old.limits (noting note) (step_in w step.now)) }
     ensures unchanged { result ≡ false → frame.new ≡ frame.old }
     ensures limits { frame.new.limits ≡ frame.old.limits }
 {
@@ -51,9 +52,8 @@ pub fn direct_statement<A: Arrays>(step: &Step<'_>, frame: &mut Frame<A>) -> boo
 #[inline(always)]
 pub fn direct_statements<A: Arrays>(steps: &[Step<'_>], frame: &mut Frame<A>) -> usize
     ensures within { result ≤ length steps.now }
-    ensures done { (w : Standing) (done : Deeds)
-        → exec_all frame.old.limits in_memory (steps_in w (drop result steps.now)) frame.new.memory done
-        ≡ exec_all frame.old.limits in_memory (steps_in w steps.now) frame.old.memory done }
+    ensures goes { (w : Standing) (note : Note) (site : Site) (o : Known) → Goes site o o frame.old.memory frame.new.memory
+        (exec_all frame.old.limits (noting note) (steps_in w steps.now)) (exec_all frame.old.limits (noting note) (steps_in w (drop result steps.now))) }
     ensures limits { frame.new.limits ≡ frame.old.limits }
 {
     for k in 0..steps.len() {
@@ -68,8 +68,8 @@ pub fn direct_statements<A: Arrays>(steps: &[Step<'_>], frame: &mut Frame<A>) ->
 #[cycle(direct)]
 #[inline(never)]
 fn direct_branch<A: Arrays>(step: &Step<'_>, frame: &mut Frame<A>) -> bool
-    ensures done { result ≡ true → (w : Standing) (done : Deeds)
-        → exec frame.old.limits in_memory (step_in w step.now) frame.old.memory done ≡ Done frame.new.memory done }
+    ensures done { result ≡ true → (w : Standing)
+        → IsDoneUnseen frame.old.memory frame.new.memory (λ note. exec frame.old.limits (noting note) (step_in w step.now)) }
     ensures unchanged { result ≡ false → frame.new ≡ frame.old }
     ensures limits { frame.new.limits ≡ frame.old.limits }
 {
@@ -98,8 +98,8 @@ fn direct_branch<A: Arrays>(step: &Step<'_>, frame: &mut Frame<A>) -> bool
 #[cycle(direct)]
 #[inline(always)]
 fn direct_sole<A: Arrays>(body: &[Step<'_>], frame: &mut Frame<A>) -> bool
-    ensures done { result ≡ true → (w : Standing) (done : Deeds)
-        → exec_all frame.old.limits in_memory (steps_in w body.now) frame.old.memory done ≡ Done frame.new.memory done }
+    ensures done { result ≡ true → (w : Standing)
+        → IsDoneUnseen frame.old.memory frame.new.memory (λ note. exec_all frame.old.limits (noting note) (steps_in w body.now)) }
     ensures unchanged { result ≡ false → frame.new ≡ frame.old }
     ensures limits { frame.new.limits ≡ frame.old.limits }
 {
@@ -113,8 +113,8 @@ fn direct_sole<A: Arrays>(body: &[Step<'_>], frame: &mut Frame<A>) -> bool
 #[cycle(direct)]
 #[inline(always)]
 fn direct_else<A: Arrays>(otherwise: &Else<'_>, frame: &mut Frame<A>) -> bool
-    ensures done { result ≡ true → (w : Standing) (done : Deeds)
-        → exec_else frame.old.limits in_memory (else_in w otherwise.now) frame.old.memory done ≡ Done frame.new.memory done }
+    ensures done { result ≡ true → (w : Standing)
+        → IsDoneUnseen frame.old.memory frame.new.memory (λ note. exec_else frame.old.limits (noting note) (else_in w otherwise.now)) }
     ensures unchanged { result ≡ false → frame.new ≡ frame.old }
     ensures limits { frame.new.limits ≡ frame.old.limits }
 {

@@ -1,15 +1,17 @@
 // Where statements stand, and what is done there by whom it concerns: prints, and what makes turns.
-// The statements are run alike in each; a context says what a print and a forall do, and is the crew that is asked there.
+// The statements are run alike in each; a context says what a print and a forall do, and is the crew that is asked there. What it has done is
+// told by its deeds (`Walks` of dpl_coming), and what is known of these by `known`.
 
-ghost use Rattle.std.specs.Prelude.{◌≡◌};
+ghost use Rattle.std.specs.Prelude.{◌≡◌, ℕ};
+ghost use Rattle.dpl_syntax.specs.declared.place.Place.{Place as PlaceValue};
+ghost use Rattle.dpl_history.specs.declared.cell.CellOp.{CellOp as CellOpValue};
 ghost use Rattle.dpl_language.specs.Tree.{One};
-ghost use Rattle.dpl_language.specs.Outcome.{Deeds};
 ghost use Rattle.dpl_language.specs.Statements.{exec};
-ghost use Rattle.dpl_memory.specs.Memory.{in_memory};
 ghost use Rattle.dpl_standing.specs.Standing.{Standing, InTurn};
 ghost use Rattle.dpl_nodes.specs.Typed.{range_item, domain_view};
 ghost use Rattle.dpl_nodes.specs.Steps.{variable_in, names_view, written_as};
-ghost use Rattle.dpl_loop.specs.Runs.{RunsTo};
+ghost use Rattle.dpl_coming.specs.Noting.{Note, noting};
+ghost use Rattle.dpl_coming.specs.Walks.{Site, Known, Walks};
 ghost use Rattle.dpl_values.specs.Reductions.{MayRefuseReduction};
 ghost use Rattle.dpl_readings.specs.Readings.{outside, forall_of, steps_in};
 ghost use Rattle.dpl_values.specs.Arguments.{EachInArguments};
@@ -20,15 +22,27 @@ use dpl_frame::Frame;
 use dpl_loop::RunStop;
 use dpl_nodes::{Argument, Changed, DomainExpr, Names, RangeExpr, Spot, Step};
 
-/// Where statements stand: outside of all foralls, or in a turn of one; and the gate that reductions there ask.
+/// Where statements stand: outside of all foralls and tasks, or in a turn or a task; and the gate that reductions there ask.
 pub trait Context: Crew {
     /// Where what is printed goes.
     type Out;
 
-    // Where they stand; and what was done, with what is printed so far.
+    // Where they stand, and who answers operations on cells there.
     ghost standing: { Standing };
 
-    ghost having: { Self.Out → Deeds → Deeds };
+    ghost site: { Site };
+
+    // What is known of what was done.
+    ghost known: { Self → Self.Out → Known };
+
+    // What is noted of a forall that is entered.
+    ghost note: { Self → Note };
+
+    // What is known of an operation at which a task waits.
+    ghost waiting: { Self.Out → PlaceValue → ℕ → CellOpValue → Type 0 };
+
+    // What whoever runs statements here may rely on, and keeps.
+    ghost held: { Self → Self.Out → Type 0 };
 
     /// Prints the texts of all arguments, and then the line's end if one is asked for.
     ///
@@ -43,9 +57,11 @@ pub trait Context: Crew {
         out: &mut Self::Out,
     ) -> Result<(), RunStop>
         requires ready { Self.is_ready self.now }
-        ensures { (done : Deeds)
-            → RunsTo (MayRefuseReduction (Self.may_refuse self.now) frame.now (EachInArguments arguments.now)) result frame.now.memory (having out.new done)
-            (exec frame.now.limits in_memory (outside standing (written_as ends_line arguments.now)) frame.now.memory (having out.old done)) };
+        requires held { held self.now out.old }
+        ensures ends { Walks (MayRefuseReduction (Self.may_refuse self.now) frame.now (EachInArguments arguments.now)) site (waiting out.new) result
+            (known self.now out.old) (known self.now out.new) frame.now.memory frame.now.memory
+            (exec frame.now.limits (noting (note self.now)) (outside standing (written_as ends_line arguments.now))) }
+        ensures held { held self.now out.new };
 
     /// A forall over a range, with what its turns change.
     ///
@@ -60,14 +76,16 @@ pub trait Context: Crew {
         changed: &Changed<'t>,
         body: &[Step<'t>],
         frame: &mut Frame<Self::Kept>,
+        out: &mut Self::Out,
     ) -> Result<(), RunStop>
         requires ready { Self.is_ready self.now }
-        ensures ends { (done : Deeds)
-            → RunsTo (MayRefuseForallLine (Self.may_refuse self.now) frame.old at.now over.now (steps_in InTurn body.now)) result frame.new.memory done
-            (exec frame.old.limits in_memory
-            (outside standing (forall_of at.now (variable_in slot) (range_item over.now) changed.now.reduced.now (steps_in InTurn body.now)))
-            frame.old.memory done) }
-        ensures limits { frame.new.limits ≡ frame.old.limits };
+        requires held { held self.now out.old }
+        ensures ends { Walks (MayRefuseForallLine (Self.may_refuse self.now) frame.old at.now over.now (steps_in InTurn body.now)) site (waiting out.new) result
+            (known self.now out.old) (known self.now out.new) frame.old.memory frame.new.memory
+            (exec frame.old.limits (noting (note self.now))
+            (outside standing (forall_of at.now (variable_in slot) (range_item over.now) changed.now.reduced.now (steps_in InTurn body.now)))) }
+        ensures limits { frame.new.limits ≡ frame.old.limits }
+        ensures held { held self.now out.new };
 
     /// The same over a domain.
     ///
@@ -81,12 +99,14 @@ pub trait Context: Crew {
         changed: &Changed<'t>,
         body: &[Step<'t>],
         frame: &mut Frame<Self::Kept>,
+        out: &mut Self::Out,
     ) -> Result<(), RunStop>
         requires ready { Self.is_ready self.now }
-        ensures ends { (done : Deeds)
-            → RunsTo (MayRefuseForall (Self.may_refuse self.now) frame.old at.now over.now (steps_in InTurn body.now)) result frame.new.memory done
-            (exec frame.old.limits in_memory
-            (outside standing (forall_of at.now (names_view names.now) (One (domain_view over.now)) changed.now.reduced.now (steps_in InTurn body.now)))
-            frame.old.memory done) }
-        ensures limits { frame.new.limits ≡ frame.old.limits };
+        requires held { held self.now out.old }
+        ensures ends { Walks (MayRefuseForall (Self.may_refuse self.now) frame.old at.now over.now (steps_in InTurn body.now)) site (waiting out.new) result
+            (known self.now out.old) (known self.now out.new) frame.old.memory frame.new.memory
+            (exec frame.old.limits (noting (note self.now))
+            (outside standing (forall_of at.now (names_view names.now) (One (domain_view over.now)) changed.now.reduced.now (steps_in InTurn body.now)))) }
+        ensures limits { frame.new.limits ≡ frame.old.limits }
+        ensures held { held self.now out.new };
 }

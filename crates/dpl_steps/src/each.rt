@@ -6,21 +6,23 @@ ghost use Rattle.dpl_sets.specs.Indices.{indices};
 ghost use Rattle.dpl_language.specs.Tree.{ForWord, Loop, One};
 ghost use Rattle.dpl_language.specs.Values.{Domain as DomainValue};
 ghost use Rattle.dpl_language.specs.Ranges.{indices_in};
-ghost use Rattle.dpl_language.specs.Outcome.{Deeds, in_order};
+ghost use Rattle.dpl_language.specs.Outcome.{in_order};
 ghost use Rattle.dpl_language.specs.Statements.{exec};
 ghost use Rattle.dpl_lowered.specs.Shapes.{nowhere};
 ghost use Rattle.dpl_memory.specs.Memory.{in_memory};
 ghost use Rattle.dpl_nodes.specs.Typed.{domain_view};
 ghost use Rattle.dpl_nodes.specs.Steps.{listed, names_view};
-ghost use Rattle.dpl_loop.specs.Runs.{RunsTo};
 ghost use Rattle.dpl_loop.specs.Entries.{MayRefuseSome};
 ghost use Rattle.dpl_loop.specs.Values.{Gives};
 ghost use Rattle.dpl_values.specs.Reductions.{MayRefuseReduction, EachInDomain};
+ghost use Rattle.dpl_coming.specs.Noting.{noting};
+ghost use Rattle.dpl_coming.specs.Walks.{Walks};
 ghost use Rattle.dpl_readings.specs.Readings.{steps_in};
-ghost use Rattle.dpl_elements.specs.Turns.{index_turn, looped_over};
+ghost use Rattle.dpl_elements.specs.Turns.{looped_over};
+ghost use Rattle.dpl_steps.specs.Noted.{index_noted};
 
 use crate::context::Context;
-use crate::rows::domain_rows;
+use crate::rows::calm_domain_rows;
 use crate::statement::run;
 use dpl_batches::bind;
 use dpl_domain::{Cursor, Domain, Index};
@@ -63,9 +65,12 @@ fn domain_turn<'t, C: Context>(
     out: &mut C::Out,
 ) -> Result<(), RunStop>
     requires ready { C.is_ready context.now }
-    ensures ends { (done : Deeds) → RunsTo (MayRefuseSome (C.may_refuse context.now)) result frame.new.memory (C.having out.new done)
-        (index_turn frame.old.limits names.now (steps_in C.standing body.now) index frame.old.memory (C.having out.old done)) }
+    requires held { C.held context.now out.old }
+    ensures ends { Walks (MayRefuseSome (C.may_refuse context.now)) C.site (C.waiting out.new) result
+        (C.known context.now out.old) (C.known context.now out.new) frame.old.memory frame.new.memory
+        (index_noted frame.old.limits (C.note context.now) names.now (steps_in C.standing body.now) index) }
     ensures limits { frame.new.limits ≡ frame.old.limits }
+    ensures held { C.held context.now out.new }
 {
     bind(names, index, frame);
     run(body, context, frame, out)
@@ -94,12 +99,15 @@ fn domain_turns<'t, C: Context>(
     out: &mut C::Out,
 ) -> Result<(), RunStop>
     requires ready { C.is_ready context.now }
-    ensures ends { (done : Deeds) → RunsTo (MayRefuseSome (C.may_refuse context.now)) result frame.new.memory (C.having out.new done)
-        (in_order (index_turn frame.old.limits names.now (steps_in C.standing body.now)) (indices_in domain) frame.old.memory (C.having out.old done)) }
+    requires held { C.held context.now out.old }
+    ensures ends { Walks (MayRefuseSome (C.may_refuse context.now)) C.site (C.waiting out.new) result
+        (C.known context.now out.old) (C.known context.now out.new) frame.old.memory frame.new.memory
+        (in_order (index_noted frame.old.limits (C.note context.now) names.now (steps_in C.standing body.now)) (indices_in domain)) }
     ensures limits { frame.new.limits ≡ frame.old.limits }
+    ensures held { C.held context.now out.new }
 {
     let over = domain.domain();
-    let Ok(made) = domain_rows(&over, names, body, frame) else {
+    let Ok(made) = calm_domain_rows(&over, names, body, frame) else {
         return Err(RunStop::Memory);
     };
     if made == over.size() {
@@ -125,10 +133,13 @@ pub(crate) fn for_each<'t, C: Context>(
     out: &mut C::Out,
 ) -> Result<(), RunStop>
     requires ready { C.is_ready context.now }
-    ensures ends { (done : Deeds) → RunsTo (MayRefuseSome (C.may_refuse context.now)) result frame.new.memory (C.having out.new done)
-        (exec frame.old.limits in_memory (Loop ForWord at.now (names_view names.now) nowhere (One (domain_view over.now)) None
-        (listed (steps_in C.standing body.now))) frame.old.memory (C.having out.old done)) }
+    requires held { C.held context.now out.old }
+    ensures ends { Walks (MayRefuseSome (C.may_refuse context.now)) C.site (C.waiting out.new) result
+        (C.known context.now out.old) (C.known context.now out.new) frame.old.memory frame.new.memory
+        (exec frame.old.limits (noting (C.note context.now)) (Loop ForWord at.now (names_view names.now) nowhere (One (domain_view over.now)) None
+        (listed (steps_in C.standing body.now)))) }
     ensures limits { frame.new.limits ≡ frame.old.limits }
+    ensures held { C.held context.now out.new }
 {
     let domain = domain_indices(at, over, frame, context)?;
     domain_turns(domain, names, body, context, frame, out)

@@ -3,7 +3,7 @@
 
 ghost use Rattle.std.specs.Prelude.{◌≡◌, ◌<◌, ℤ, None, Some, drop, length, slice_get};
 ghost use Rattle.dpl_sets.specs.Ranges.{members_of};
-ghost use Rattle.dpl_language.specs.Outcome.{Deeds, repeated};
+ghost use Rattle.dpl_language.specs.Outcome.{repeated};
 ghost use Rattle.dpl_language.specs.Statements.{exec, exec_all, exec_else, holds};
 ghost use Rattle.dpl_memory.specs.Memory.{in_memory};
 ghost use Rattle.dpl_nodes.specs.Typed.{truth_view, range_item};
@@ -11,16 +11,18 @@ ghost use Rattle.dpl_language.specs.Tree.{ForWord, Loop};
 ghost use Rattle.dpl_lowered.specs.Shapes.{nowhere};
 ghost use Rattle.dpl_nodes.specs.Steps.{listed, variable_in};
 ghost use Rattle.dpl_frame.specs.Faults.{as_range};
-ghost use Rattle.dpl_loop.specs.Runs.{RunsTo};
 ghost use Rattle.dpl_loop.specs.Entries.{MayRefuseSome};
 ghost use Rattle.dpl_loop.specs.Values.{Gives};
 ghost use Rattle.dpl_values.specs.Reductions.{MayRefuseReduction, EachInRange};
+ghost use Rattle.dpl_coming.specs.Noting.{noting};
+ghost use Rattle.dpl_coming.specs.Walks.{Walks};
 ghost use Rattle.dpl_readings.specs.Readings.{step_in, else_in, steps_in};
-ghost use Rattle.dpl_elements.specs.Turns.{in_turn, turn_in_memory, looped_over};
+ghost use Rattle.dpl_elements.specs.Turns.{in_turn, looped_over};
+ghost use Rattle.dpl_steps.specs.Noted.{turn_noted};
 
 use crate::context::Context;
 use crate::each::for_each;
-use crate::rows::rows;
+use crate::rows::calm_rows;
 use dpl_elements::{set_array, set_truth_array};
 use dpl_frame::{FaultCode, Frame, RangeWord, Trap};
 use dpl_loop::RunStop;
@@ -68,9 +70,12 @@ pub fn run<'t, C: Context>(
     out: &mut C::Out,
 ) -> Result<(), RunStop>
     requires ready { C.is_ready context.now }
-    ensures ends { (done : Deeds) → RunsTo (MayRefuseSome (C.may_refuse context.now)) result frame.new.memory (C.having out.new done)
-        (exec_all frame.old.limits in_memory (steps_in C.standing steps.now) frame.old.memory (C.having out.old done)) }
+    requires held { C.held context.now out.old }
+    ensures ends { Walks (MayRefuseSome (C.may_refuse context.now)) C.site (C.waiting out.new) result
+        (C.known context.now out.old) (C.known context.now out.new) frame.old.memory frame.new.memory
+        (exec_all frame.old.limits (noting (C.note context.now)) (steps_in C.standing steps.now)) }
     ensures limits { frame.new.limits ≡ frame.old.limits }
+    ensures held { C.held context.now out.new }
 {
     let made = direct_statements(steps, frame);
     if made == steps.len() {
@@ -91,16 +96,44 @@ fn walk<'t, C: Context>(
     out: &mut C::Out,
 ) -> Result<(), RunStop>
     requires ready { C.is_ready context.now }
-    ensures ends { (done : Deeds) → RunsTo (MayRefuseSome (C.may_refuse context.now)) result frame.new.memory (C.having out.new done)
-        (exec_all frame.old.limits in_memory (steps_in C.standing (drop first steps.now)) frame.old.memory (C.having out.old done)) }
+    requires held { C.held context.now out.old }
+    ensures ends { Walks (MayRefuseSome (C.may_refuse context.now)) C.site (C.waiting out.new) result
+        (C.known context.now out.old) (C.known context.now out.new) frame.old.memory frame.new.memory
+        (exec_all frame.old.limits (noting (C.note context.now)) (steps_in C.standing (drop first steps.now))) }
     ensures limits { frame.new.limits ≡ frame.old.limits }
+    ensures held { C.held context.now out.new }
 {
     for k in first..steps.len() {
-        if k == first || !direct_statement(&steps[k], frame) {
-            statement(&steps[k], context, frame, out)?;
-        }
+        step(k == first, &steps[k], context, frame, out)?;
     }
     Ok(())
+}
+
+// A statement, of which it may be known that it isn't done directly.
+#[cycle(run)]
+#[inline(always)]
+fn step<'t, C: Context>(
+    known: bool,
+    step: &Step<'t>,
+    context: &C,
+    frame: &mut Frame<C::Kept>,
+    out: &mut C::Out,
+) -> Result<(), RunStop>
+    requires ready { C.is_ready context.now }
+    requires held { C.held context.now out.old }
+    ensures ends { Walks (MayRefuseSome (C.may_refuse context.now)) C.site (C.waiting out.new) result
+        (C.known context.now out.old) (C.known context.now out.new) frame.old.memory frame.new.memory
+        (exec frame.old.limits (noting (C.note context.now)) (step_in C.standing step.now)) }
+    ensures limits { frame.new.limits ≡ frame.old.limits }
+    ensures held { C.held context.now out.new }
+{
+    if known {
+        return statement(step, context, frame, out);
+    }
+    if direct_statement(step, frame) {
+        return Ok(());
+    }
+    statement(step, context, frame, out)
 }
 
 // A statement that isn't done directly. The kinds that stand most often in loops come first, without the room that others need; of an `if` the
@@ -114,9 +147,12 @@ fn statement<'t, C: Context>(
     out: &mut C::Out,
 ) -> Result<(), RunStop>
     requires ready { C.is_ready context.now }
-    ensures ends { (done : Deeds) → RunsTo (MayRefuseSome (C.may_refuse context.now)) result frame.new.memory (C.having out.new done)
-        (exec frame.old.limits in_memory (step_in C.standing step.now) frame.old.memory (C.having out.old done)) }
+    requires held { C.held context.now out.old }
+    ensures ends { Walks (MayRefuseSome (C.may_refuse context.now)) C.site (C.waiting out.new) result
+        (C.known context.now out.old) (C.known context.now out.new) frame.old.memory frame.new.memory
+        (exec frame.old.limits (noting (C.note context.now)) (step_in C.standing step.now)) }
     ensures limits { frame.new.limits ≡ frame.old.limits }
+    ensures held { C.held context.now out.new }
 {
     match step {
         Step::If {
@@ -146,9 +182,12 @@ fn any_statement<'t, C: Context>(
     out: &mut C::Out,
 ) -> Result<(), RunStop>
     requires ready { C.is_ready context.now }
-    ensures ends { (done : Deeds) → RunsTo (MayRefuseSome (C.may_refuse context.now)) result frame.new.memory (C.having out.new done)
-        (exec frame.old.limits in_memory (step_in C.standing step.now) frame.old.memory (C.having out.old done)) }
+    requires held { C.held context.now out.old }
+    ensures ends { Walks (MayRefuseSome (C.may_refuse context.now)) C.site (C.waiting out.new) result
+        (C.known context.now out.old) (C.known context.now out.new) frame.old.memory frame.new.memory
+        (exec frame.old.limits (noting (C.note context.now)) (step_in C.standing step.now)) }
     ensures limits { frame.new.limits ≡ frame.old.limits }
+    ensures held { C.held context.now out.new }
 {
     match step {
         Step::Nothing => Ok(()),
@@ -200,7 +239,7 @@ fn any_statement<'t, C: Context>(
             over,
             changed,
             body,
-        } => context.forall_line(at, *slot, over, changed, body, frame),
+        } => context.forall_line(at, *slot, over, changed, body, frame, out),
         Step::ForEach {
             at,
             names,
@@ -213,7 +252,7 @@ fn any_statement<'t, C: Context>(
             over,
             changed,
             body,
-        } => Context::forall(context, at, names, over, changed, body, frame),
+        } => Context::forall(context, at, names, over, changed, body, frame, out),
     }
 }
 
@@ -230,10 +269,13 @@ fn for_loop<'t, C: Context>(
     out: &mut C::Out,
 ) -> Result<(), RunStop>
     requires ready { C.is_ready context.now }
-    ensures ends { (done : Deeds) → RunsTo (MayRefuseSome (C.may_refuse context.now)) result frame.new.memory (C.having out.new done)
-        (exec frame.old.limits in_memory (Loop ForWord at.now (variable_in slot) nowhere (range_item over.now) None
-        (listed (steps_in C.standing body.now))) frame.old.memory (C.having out.old done)) }
+    requires held { C.held context.now out.old }
+    ensures ends { Walks (MayRefuseSome (C.may_refuse context.now)) C.site (C.waiting out.new) result
+        (C.known context.now out.old) (C.known context.now out.new) frame.old.memory frame.new.memory
+        (exec frame.old.limits (noting (C.note context.now)) (Loop ForWord at.now (variable_in slot) nowhere (range_item over.now) None
+        (listed (steps_in C.standing body.now)))) }
     ensures limits { frame.new.limits ≡ frame.old.limits }
+    ensures held { C.held context.now out.new }
 {
     let range = range_indices(at, over, frame, context)?.range;
     turns(range, slot, body, context, frame, out)
@@ -248,9 +290,12 @@ fn alternative<'t, C: Context>(
     out: &mut C::Out,
 ) -> Result<(), RunStop>
     requires ready { C.is_ready context.now }
-    ensures ends { (done : Deeds) → RunsTo (MayRefuseSome (C.may_refuse context.now)) result frame.new.memory (C.having out.new done)
-        (exec_else frame.old.limits in_memory (else_in C.standing otherwise.now) frame.old.memory (C.having out.old done)) }
+    requires held { C.held context.now out.old }
+    ensures ends { Walks (MayRefuseSome (C.may_refuse context.now)) C.site (C.waiting out.new) result
+        (C.known context.now out.old) (C.known context.now out.new) frame.old.memory frame.new.memory
+        (exec_else frame.old.limits (noting (C.note context.now)) (else_in C.standing otherwise.now)) }
     ensures limits { frame.new.limits ≡ frame.old.limits }
+    ensures held { C.held context.now out.new }
 {
     match otherwise {
         Else::Absent => Ok(()),
@@ -275,10 +320,13 @@ fn while_loop<'t, C: Context>(
     out: &mut C::Out,
 ) -> Result<(), RunStop>
     requires ready { C.is_ready context.now }
-    ensures ends { (done : Deeds) → RunsTo (MayRefuseSome (C.may_refuse context.now)) result frame.new.memory (C.having out.new done)
+    requires held { C.held context.now out.old }
+    ensures ends { Walks (MayRefuseSome (C.may_refuse context.now)) C.site (C.waiting out.new) result
+        (C.known context.now out.old) (C.known context.now out.new) frame.old.memory frame.new.memory
         (repeated frame.old.limits.budget at.now (holds frame.old.limits in_memory (truth_view condition.now))
-        (exec_all frame.old.limits in_memory (steps_in C.standing body.now)) frame.old.memory (C.having out.old done)) }
+        (exec_all frame.old.limits (noting (C.note context.now)) (steps_in C.standing body.now))) }
     ensures limits { frame.new.limits ≡ frame.old.limits }
+    ensures held { C.held context.now out.new }
 {
     let mut left = frame.budget();
     while left > 0 && is_met(condition, frame) {
@@ -301,10 +349,13 @@ fn walked_while<'t, C: Context>(
     out: &mut C::Out,
 ) -> Result<(), RunStop>
     requires ready { C.is_ready context.now }
-    ensures ends { (done : Deeds) → RunsTo (MayRefuseSome (C.may_refuse context.now)) result frame.new.memory (C.having out.new done)
+    requires held { C.held context.now out.old }
+    ensures ends { Walks (MayRefuseSome (C.may_refuse context.now)) C.site (C.waiting out.new) result
+        (C.known context.now out.old) (C.known context.now out.new) frame.old.memory frame.new.memory
         (repeated most at.now (holds frame.old.limits in_memory (truth_view condition.now))
-        (exec_all frame.old.limits in_memory (steps_in C.standing body.now)) frame.old.memory (C.having out.old done)) }
+        (exec_all frame.old.limits (noting (C.note context.now)) (steps_in C.standing body.now))) }
     ensures limits { frame.new.limits ≡ frame.old.limits }
+    ensures held { C.held context.now out.new }
 {
     let mut left = most;
     while truth_value(condition, frame, context)?.get() {
@@ -330,11 +381,14 @@ fn turn<'t, C: Context>(
     out: &mut C::Out,
 ) -> Result<(), RunStop>
     requires ready { C.is_ready context.now }
+    requires held { C.held context.now out.old }
     requires place { k < length (members_of range) }
-    ensures ends { (i : ℤ) (done : Deeds) → slice_get (members_of range) k ≡ Some i
-        → RunsTo (MayRefuseSome (C.may_refuse context.now)) result frame.new.memory (C.having out.new done)
-        (turn_in_memory frame.old.limits slot (steps_in C.standing body.now) i frame.old.memory (C.having out.old done)) }
+    ensures ends { (i : ℤ) → slice_get (members_of range) k ≡ Some i
+        → Walks (MayRefuseSome (C.may_refuse context.now)) C.site (C.waiting out.new) result
+        (C.known context.now out.old) (C.known context.now out.new) frame.old.memory frame.new.memory
+        (turn_noted frame.old.limits (C.note context.now) slot (steps_in C.standing body.now) i) }
     ensures limits { frame.new.limits ≡ frame.old.limits }
+    ensures held { C.held context.now out.new }
 {
     let Some(i) = range.nth(k) else {
         unreachable!()
@@ -355,11 +409,14 @@ fn turns<'t, C: Context>(
     out: &mut C::Out,
 ) -> Result<(), RunStop>
     requires ready { C.is_ready context.now }
-    ensures ends { (done : Deeds) → RunsTo (MayRefuseSome (C.may_refuse context.now)) result frame.new.memory (C.having out.new done)
-        (in_turn (turn_in_memory frame.old.limits slot (steps_in C.standing body.now)) (members_of range) frame.old.memory (C.having out.old done)) }
+    requires held { C.held context.now out.old }
+    ensures ends { Walks (MayRefuseSome (C.may_refuse context.now)) C.site (C.waiting out.new) result
+        (C.known context.now out.old) (C.known context.now out.new) frame.old.memory frame.new.memory
+        (in_turn (turn_noted frame.old.limits (C.note context.now) slot (steps_in C.standing body.now)) (members_of range)) }
     ensures limits { frame.new.limits ≡ frame.old.limits }
+    ensures held { C.held context.now out.new }
 {
-    let Ok(made) = rows(range, slot, body, frame) else {
+    let Ok(made) = calm_rows(range, slot, body, frame) else {
         return Err(RunStop::Memory);
     };
     for k in made..range.size() {

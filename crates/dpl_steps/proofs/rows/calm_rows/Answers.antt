@@ -1,0 +1,20 @@
+-- Turns of a calm body go over to those that are left, whatever is noted and to come.
+use Rattle.std.proofs.Common.{drop}
+use Rattle.dpl_sets.specs.Ranges.{members_of}
+use Rattle.dpl_readings.specs.Readings.{steps_in}
+use Rattle.dpl_coming.proofs.Walking.{goes-nothing}
+use Rattle.dpl_steps.proofs.Walked.{ok-every, goes-rows}
+use Rattle.dpl_steps.proofs.rows.calm_rows.Goals as goal
+
+pub returns-then-size-lt-FEW-clause-goes : goal.returns-then-size-lt-FEW-clause-goes
+returns-then-size-lt-FEW-clause-goes g c w note site o = goes-nothing site o c.args.frame.now.memory _
+
+pub returns-then-not-are_calm-clause-goes : goal.returns-then-not-are_calm-clause-goes
+returns-then-not-are_calm-clause-goes g c w note site o = goes-nothing site o c.args.frame.now.memory _
+
+pub returns-clause-goes : goal.returns-clause-goes
+returns-clause-goes g c w note site o =
+    let is = members_of c.args.range in
+    ok-every c.rows.result (λ done. c.rows.ensures.goes w done)
+    (λ made same. goes-rows c.args.frame.now.limits note site o (steps_in w c.args.body.now) c.args.frame.now.memory c.rows.new.frame.memory (c.are_calm.ensures c.if-not-are_calm.false w)
+    c.args.slot is (drop made is) same)
