@@ -20,6 +20,8 @@ pub made-apart : (limits : Limits) (rank : ℕ) → MayBeApart (no_changes rank)
 made-apart limits rank =
     may_be_apart (no_changes rank) (whole_turn (Made rank) limits) (λ t. t) (λ t of_rank. refl)
     (λ t. quiet-done (λ s. s) (λ s. refl))
-    (λ t first second formed_first formed like last rows row words its exact.
-    (held_in (no_changes rank) second last rows words,
-    begins (no_changes rank) t first second formed_first formed like [] [] [] (λ j. refl) (λ j. refl) (λ j. refl) last rows row words its exact, refl))
+    (λ t first second formed_first formed like last rows row words its exact. (
+      held_in (no_changes rank) second last rows words,
+      begins (no_changes rank) t first second formed_first formed like [] [] [] (λ j. refl) (λ j. refl) (λ j. refl) last rows row words its exact,
+      refl,
+    ))

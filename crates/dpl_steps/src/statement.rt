@@ -30,7 +30,8 @@ use dpl_loop::stop::told;
 use dpl_nodes::{BoolExpr, Else, RangeExpr, Spot, Step, StepWord};
 use dpl_range::Range;
 use dpl_simple::{
-    declare_array_by, declare_domain, direct_statement, direct_statements, is_met, set_domain, simple,
+    declare_array_by, declare_domain, direct_statement, direct_statements, is_met, set_domain,
+    simple,
 };
 use dpl_values::{Team, direct_truth, range_value, truth_value};
 
