@@ -227,7 +227,7 @@ fn any_statement<'t, C: Context>(
             at,
             condition,
             body,
-        } => while_loop(at, condition, body, context, frame, out),
+        } => while_loop(at, body, condition, context, frame, out),
         Step::For {
             at,
             slot,
@@ -314,8 +314,8 @@ fn alternative<'t, C: Context>(
 #[inline(never)]
 fn while_loop<'t, C: Context>(
     at: &Spot,
-    condition: &BoolExpr<'t>,
     body: &[Step<'t>],
+    condition: &BoolExpr<'t>,
     context: &C,
     frame: &mut Frame<C::Kept>,
     out: &mut C::Out,
@@ -334,7 +334,7 @@ fn while_loop<'t, C: Context>(
         left -= 1;
         run(body, context, frame, out)?;
     }
-    walked_while(left, at, condition, body, context, frame, out)
+    walked_while(left, at, body, condition, context, frame, out)
 }
 
 // The turns of a `while` from there on where so many are left: the condition is evaluated before each, and where it holds a turn has to be left.
@@ -343,8 +343,8 @@ fn while_loop<'t, C: Context>(
 fn walked_while<'t, C: Context>(
     most: u64,
     at: &Spot,
-    condition: &BoolExpr<'t>,
     body: &[Step<'t>],
+    condition: &BoolExpr<'t>,
     context: &C,
     frame: &mut Frame<C::Kept>,
     out: &mut C::Out,
