@@ -21,10 +21,11 @@ ghost use Rattle.dpl_brackets.specs.Parts.{Passes};
 
 use crate::coordinates::{index_of, int_of};
 use crate::index::is_index;
-use dpl_nodes::{BoolExpr, DomainExpr, IntExpr, RangeExpr};
+use crate::posts::posted;
+use dpl_nodes::{BoolExpr, DomainExpr, DomainPost, IntExpr, RangeExpr};
 use dpl_syntax::{Breach, Code, Place};
 use dpl_tree::Arena;
-use dpl_typed::node::{domain, range, spot, truth};
+use dpl_typed::node::{range, spot, truth};
 use dpl_typed::part::wanted;
 use dpl_typed::verdict::{misranked, mistyped};
 use dpl_typed::{Made, Part, Typed};
@@ -208,12 +209,8 @@ fn expanded<'t>(
     let Ok(spot) = spot(arena, at) else {
         return Err(AllocError);
     };
-    domain(
-        arena,
-        rank,
-        false,
-        DomainExpr::Expanded(base, spot, int_of(by)),
-    )
+    let post = DomainPost::Expanded(spot, int_of(by));
+    posted(arena, rank, false, base, post)
 }
 
 /// `expand`, which is an unstrided domain's, and takes an int; a domain that is too large is told at its name.

@@ -8,6 +8,7 @@ pub mod coordinates;
 pub mod domains;
 pub mod index;
 pub mod method;
+mod posts;
 pub mod ranges;
 pub mod slice;
 

@@ -1,7 +1,7 @@
 // Slices of ranges and domains: as many unstrided ranges as the rank.
 // C5 stands at the last token before the opening bracket.
 
-ghost use Rattle.std.specs.Prelude.{◌≡◌, ◌<◌, true, IfOk, length, map};
+ghost use Rattle.std.specs.Prelude.{◌≡◌, ◌<◌, true, IfOk, [], length, map};
 ghost use Rattle.dpl_language.specs.Tree.{Items};
 ghost use Rattle.dpl_memory.specs.Memory.{Variable};
 ghost use Rattle.dpl_nodes.specs.Typed.{in_square, range_view, domain_view};
@@ -15,10 +15,11 @@ ghost use Rattle.dpl_typed.specs.Told.{Judges};
 ghost use Rattle.dpl_brackets.specs.Parts.{Passes};
 
 use crate::coordinates::{range_of, ranges_of};
-use dpl_nodes::{DomainExpr, RangeExpr};
+use crate::posts::posted;
+use dpl_nodes::{DomainExpr, DomainPost, RangeCut, RangeExpr};
 use dpl_syntax::{Breach, Place};
 use dpl_tree::Arena;
-use dpl_typed::node::{domain, range};
+use dpl_typed::node::range;
 use dpl_typed::part::{all_known, each_wanted};
 use dpl_typed::{Made, Part};
 use dpl_types::{Want, wrong_rank};
@@ -43,6 +44,13 @@ fn are_slices(last: Place, rank: usize, parts: &[Part<'_>], first: &mut Option<B
     all_known(parts) && holds
 }
 
+// No cuts behind the first one.
+fn no_cuts<'t>() -> &'t [RangeCut<'t>]
+    ensures { result.now ≡ [] }
+{
+    &[]
+}
+
 /// What of a range lies between the bounds of another one.
 ///
 /// # Errors
@@ -62,7 +70,10 @@ pub fn range_slice<'t>(
         return Ok(None);
     }
     match parts {
-        [cut] => range(arena, strided, RangeExpr::Slice(base, range_of(*cut))),
+        [cut] => {
+            let cut = range_of(*cut);
+            range(arena, strided, RangeExpr::Slice(base, cut, no_cuts()))
+        }
         _ => unreachable!(),
     }
 }
@@ -91,5 +102,5 @@ pub fn domain_slice<'t>(
     let Ok(cuts) = ranges_of(arena, parts) else {
         return Err(AllocError);
     };
-    domain(arena, rank, strided, DomainExpr::Slice(base, cuts))
+    posted(arena, rank, strided, base, DomainPost::Slice(cuts))
 }

@@ -141,15 +141,16 @@ fn over_ranges<'t>(bare: bool, e: &'t RangesExpr<'t>) -> DeclaredOver<'t>
     match e {
         RangesExpr::Line(range) => match range {
             RangeExpr::Local(_) => DeclaredOver::HiddenRange(range),
-            RangeExpr::Between(_, _, _, _, _)
-            | RangeExpr::Slice(_, _)
-            | RangeExpr::Dimension(_, _) => DeclaredOver::Ranges(e),
+            RangeExpr::Slice(_, _, _) => DeclaredOver::Ranges(e),
+            RangeExpr::Between(_, _, _, _, _) | RangeExpr::Dimension(_, _) => {
+                DeclaredOver::Ranges(e)
+            }
         },
         RangesExpr::Plane(_, _) | RangesExpr::Space(_, _, _) => DeclaredOver::Ranges(e),
     }
 }
 
-// A domain in the same way.
+// A domain in the same way; with no posts in its list it is what they would stand behind.
 fn over_domain<'t>(bare: bool, e: &'t DomainExpr<'t>) -> DeclaredOver<'t>
     ensures { items_over result ≡ between bare (items_one (One (domain_view e.now))) }
 {
@@ -158,11 +159,28 @@ fn over_domain<'t>(bare: bool, e: &'t DomainExpr<'t>) -> DeclaredOver<'t>
     }
     match e {
         DomainExpr::Local(_) => DeclaredOver::HiddenDomain(e),
-        DomainExpr::OfArray(_, _)
-        | DomainExpr::Literal(_, _)
-        | DomainExpr::Slice(_, _)
-        | DomainExpr::Expanded(_, _, _)
-        | DomainExpr::Created(_, _) => DeclaredOver::Domain(e),
+        DomainExpr::Posts(d, posts) => match posts {
+            [] => over_domain(bare, d),
+            [_, ..] => DeclaredOver::Domain(e),
+        },
+        DomainExpr::OfArray(_, _) | DomainExpr::Literal(_, _) | DomainExpr::Created(_, _) => {
+            DeclaredOver::Domain(e)
+        }
+    }
+}
+
+// What stands between an array's brackets, by the node that was made of it.
+fn over_node<'t>(bare: bool, node: &'t DomainExpr<'t>) -> Option<DeclaredOver<'t>>
+    ensures { (from : PlaceNode) (is : ItemsTree Variable) → domain_view node.now ≡ DomainLiteral from is nowhere → IsOver (between bare is) result }
+{
+    match node {
+        DomainExpr::Literal(_, ranges) => Some(over_ranges(bare, ranges)),
+        DomainExpr::Created(_, base) => Some(over_domain(bare, base)),
+        DomainExpr::Posts(d, posts) => match posts {
+            [] => over_node(bare, d),
+            [_, ..] => None,
+        },
+        DomainExpr::Local(_) | DomainExpr::OfArray(_, _) => None,
     }
 }
 
@@ -175,14 +193,7 @@ pub(crate) fn over_made<'t>(bare: bool, domain: Option<Typed<'t>>) -> Option<Dec
         return None;
     };
     match made {
-        Typed::Domain { node, .. } => match node {
-            DomainExpr::Literal(_, ranges) => Some(over_ranges(bare, ranges)),
-            DomainExpr::Created(_, base) => Some(over_domain(bare, base)),
-            DomainExpr::Local(_)
-            | DomainExpr::OfArray(_, _)
-            | DomainExpr::Slice(_, _)
-            | DomainExpr::Expanded(_, _, _) => None,
-        },
+        Typed::Domain { node, .. } => over_node(bare, node),
         _ => None,
     }
 }

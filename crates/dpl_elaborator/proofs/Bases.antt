@@ -9,11 +9,11 @@ use Rattle.dpl_language.specs.Spelled.{HasPosts}
 use Rattle.dpl_agreement.specs.Renamed.{renamed_expr, renamed_item, renamed_posts, renamed_post, renamed_method}
 use Rattle.dpl_rules.specs.Sights.{Scopes}
 use Rattle.dpl_lowered.specs.Shapes.{as_expr, two, grouped, all_pass_on, nested, stacked, stacked_on}
-use Rattle.dpl_lowered.specs.LoweredExpressions.{Times, Once, rebased, read_base, told_base, based}
+use Rattle.dpl_lowered.specs.LoweredExpressions.{Times, Once, EachTurn, rebased, read_base, told_base, based}
 use Rattle.dpl_lowered.proofs.Formed.{as_expr-as_item, lowered-formed}
 use Rattle.dpl_memory.specs.Memory.{Variable, known_variable}
 use Rattle.dpl_nodes.specs.Spots.{IsNear}
-use Rattle.dpl_spelling.specs.Spelt.{PostSpelt}
+use Rattle.dpl_spelling.specs.Spelt.{PostSpelt, PostsSpelt}
 use Rattle.dpl_typed.specs.declared.typed.Typed.{Typed}
 use Rattle.dpl_typed.specs.Leaves.{leaf_in, IsFound}
 use Rattle.dpl_typed.specs.Simple.{IsSimple, IsSimpleItem, AreSimplePosts, IsSimplePost, IsSimpleMethod}
@@ -128,6 +128,18 @@ module _ (scopes : Scopes) where
         simple = so.simple.1;
         near = so.near.1;
       }
+
+  at_times : (f : Times → ExprTree Variable) → f EachTurn ≡ f Once → (m : Times) → f m ≡ f Once
+  at_times f e Once = refl
+  at_times f e EachTurn = e
+
+  -- all posts
+  pub posts-end : (base : Option Typed) (all : Posts Text) (t : Option Typed) → ArePostsSoFar scopes base all t NoPosts
+      → (f : Times → ExprTree Variable) (b : Base Variable) → StandsFor base f → StandsAt f b → HasPosts all → AreSimplePosts (IsFound scopes) all
+      → PostsSpelt IsNear ⊥ all → StandsFor t (λ m. built scopes b all (f Once))
+  posts-end base all t so_far f b h told some simple near =
+      let so = so_far f b h told simple near in
+      stands-same t so.tree (λ m. built scopes b all (f Once)) (λ m. at_times so.tree (so.steady some) m ∙ so.same) so.stands
 
   -- a whole base with its posts
   stacked_on-stacked : (x : ExprTree Variable) (b : Base Variable) (ps : Posts Text) → HasPosts ps → stacked_on x (posts_leaves scopes b ps) ≡ stacked x (posts_leaves scopes b ps)

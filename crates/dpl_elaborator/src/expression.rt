@@ -450,7 +450,7 @@ pub fn posts<'t>(
         t = more;
         last = last_of_post(next);
     }
-    Ok(t)
+    flat(arena, t)
 }
 
 /// One bracket, or one method, behind a value.

@@ -7,7 +7,7 @@ ghost use Rattle.dpl_language.specs.Tree.{IntKind, BoolKind};
 ghost use Rattle.dpl_lowered.specs.LoweredExpressions.{Times};
 ghost use Rattle.dpl_lowered.specs.Shapes.{nowhere, kept, two};
 ghost use Rattle.dpl_nodes.specs.Spots.{IsNear};
-ghost use Rattle.dpl_nodes.specs.Typed.{comparison_view, int_view, promoted_int};
+ghost use Rattle.dpl_nodes.specs.Typed.{comparison_view, int_infix, int_place, int_view, promoted_int};
 ghost use Rattle.dpl_rules.specs.Operators.{taking, taken};
 ghost use Rattle.dpl_rules.specs.Types.{an_int, a_bool, Promoted};
 ghost use Rattle.dpl_scopes.specs.Types.{over_view};
@@ -15,7 +15,9 @@ ghost use Rattle.dpl_typed.specs.Typed.{types_of};
 ghost use Rattle.dpl_typed.specs.Stands.{StandsFor};
 ghost use Rattle.dpl_typed.specs.Told.{Judges};
 
-use dpl_nodes::{BoolExpr, Comparison, IntExpr, PromotedInt, PromotedTruth};
+use dpl_nodes::{
+    BoolExpr, Comparison, IntExpr, IntOperator, PromotedInt, PromotedIntLink, PromotedTruth,
+};
 use dpl_scopes::Over;
 use dpl_syntax::{Breach, Place};
 use dpl_tree::{Arena, Infix};
@@ -88,6 +90,23 @@ fn promoted_compared<'t>(
     truths(arena, over, PromotedTruth::Compare(comparison, left, right))
 }
 
+// Ints at each index, as a chain of one operator.
+fn promoted_joined<'t>(
+    arena: Arena<'t>,
+    op: IntOperator<'t>,
+    over: Over<'t>,
+    left: &'t PromotedInt<'t>,
+    right: &'t PromotedInt<'t>,
+) -> Made<'t>
+    ensures typed { IfOk result (λ r. types_of r ≡ Some (Promoted IntKind (over_view over.entry))) }
+    ensures node { IfOk result (λ r. StandsFor r (λ m. two (promoted_int m left.now) (int_place op.entry) (int_infix op.entry) (promoted_int m right.now))) }
+{
+    match arena.node([PromotedIntLink { op, right }]) {
+        Ok(links) => ints(arena, over, PromotedInt::Chain(left, links)),
+        Err(_) => Err(AllocError),
+    }
+}
+
 /// An operator between ints at each index; one that is repeated there is an int by its type.
 ///
 /// # Errors
@@ -105,15 +124,15 @@ pub fn of_promoted_ints<'t>(
     ensures node { IfOk result (λ r. IsNear at → StandsFor r (λ m. two (promoted_int m left.now) (kept (divides op) at) op (promoted_int m right.now))) }
 {
     match op {
-        Infix::Add => ints(arena, over, PromotedInt::Sum(left, right)),
-        Infix::Subtract => ints(arena, over, PromotedInt::Difference(left, right)),
-        Infix::Multiply => ints(arena, over, PromotedInt::Product(left, right)),
+        Infix::Add => promoted_joined(arena, IntOperator::Sum, over, left, right),
+        Infix::Subtract => promoted_joined(arena, IntOperator::Difference, over, left, right),
+        Infix::Multiply => promoted_joined(arena, IntOperator::Product, over, left, right),
         Infix::Divide => match spot(arena, at) {
-            Ok(at) => ints(arena, over, PromotedInt::Quotient(left, right, at)),
+            Ok(at) => promoted_joined(arena, IntOperator::Quotient(at), over, left, right),
             Err(_) => Err(AllocError),
         },
         Infix::Remainder => match spot(arena, at) {
-            Ok(at) => ints(arena, over, PromotedInt::Remainder(left, right, at)),
+            Ok(at) => promoted_joined(arena, IntOperator::Remainder(at), over, left, right),
             Err(_) => Err(AllocError),
         },
         Infix::Less => promoted_compared(arena, Comparison::Less, over, left, right),

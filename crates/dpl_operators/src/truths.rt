@@ -1,18 +1,19 @@
 // Operators between truth values, and between truth values at each index.
 // `== !=` take both, and `&& ||` none that are promoted.
 
-ghost use Rattle.std.specs.Prelude.{◌≡◌, IfOk};
+ghost use Rattle.std.specs.Prelude.{◌≡◌, IfOk, Some};
 ghost use Rattle.dpl_language.specs.Tree.{BoolKind};
 ghost use Rattle.dpl_lowered.specs.LoweredExpressions.{Times};
 ghost use Rattle.dpl_lowered.specs.Shapes.{nowhere, two};
-ghost use Rattle.dpl_nodes.specs.Typed.{truth_view, promoted_truth};
+ghost use Rattle.dpl_nodes.specs.Typed.{junction_view, truth_view, promoted_truth};
 ghost use Rattle.dpl_rules.specs.Operators.{taking, taken};
 ghost use Rattle.dpl_rules.specs.Types.{a_bool, Promoted};
 ghost use Rattle.dpl_scopes.specs.Types.{over_view};
+ghost use Rattle.dpl_typed.specs.Typed.{types_of};
 ghost use Rattle.dpl_typed.specs.Stands.{StandsFor};
 ghost use Rattle.dpl_typed.specs.Told.{Judges};
 
-use dpl_nodes::{BoolExpr, PromotedTruth};
+use dpl_nodes::{BoolExpr, Junction, PromotedTruth, PromotedTruthLink, TruthLink};
 use dpl_scopes::Over;
 use dpl_syntax::{Breach, Place};
 use dpl_tree::{Arena, Infix};
@@ -20,6 +21,22 @@ use dpl_typed::Made;
 use dpl_typed::node::{truth, truths};
 use dpl_typed::verdict::mistyped;
 use std::alloc::AllocError;
+
+// Two truth values, as a chain of one operator.
+fn joined<'t>(
+    arena: Arena<'t>,
+    op: Junction,
+    left: &'t BoolExpr<'t>,
+    right: &'t BoolExpr<'t>,
+) -> Made<'t>
+    ensures typed { IfOk result (λ r. types_of r ≡ Some a_bool) }
+    ensures node { IfOk result (λ r. StandsFor r (λ m. two (truth_view left.now) nowhere (junction_view op) (truth_view right.now))) }
+{
+    match arena.node([TruthLink { op, right }]) {
+        Ok(links) => truth(arena, BoolExpr::Chain(left, links)),
+        Err(_) => Err(AllocError),
+    }
+}
 
 /// An operator between two truth values.
 ///
@@ -37,10 +54,10 @@ pub fn of_truths<'t>(
     ensures node { IfOk result (λ r. StandsFor r (λ m. two (truth_view left.now) nowhere op (truth_view right.now))) }
 {
     match op {
-        Infix::Equal => truth(arena, BoolExpr::Same(left, right)),
-        Infix::NotEqual => truth(arena, BoolExpr::Differ(left, right)),
-        Infix::And => truth(arena, BoolExpr::And(left, right)),
-        Infix::Or => truth(arena, BoolExpr::Or(left, right)),
+        Infix::Equal => joined(arena, Junction::Same, left, right),
+        Infix::NotEqual => joined(arena, Junction::Differ, left, right),
+        Infix::And => joined(arena, Junction::And, left, right),
+        Infix::Or => joined(arena, Junction::Or, left, right),
         Infix::Add
         | Infix::Subtract
         | Infix::Multiply
@@ -50,6 +67,23 @@ pub fn of_truths<'t>(
         | Infix::LessEqual
         | Infix::Greater
         | Infix::GreaterEqual => Ok(mistyped(at, first)),
+    }
+}
+
+// Truth values at each index, as a chain of one operator.
+fn promoted_joined<'t>(
+    arena: Arena<'t>,
+    op: Junction,
+    over: Over<'t>,
+    left: &'t PromotedTruth<'t>,
+    right: &'t PromotedTruth<'t>,
+) -> Made<'t>
+    ensures typed { IfOk result (λ r. types_of r ≡ Some (Promoted BoolKind (over_view over.entry))) }
+    ensures node { IfOk result (λ r. StandsFor r (λ m. two (promoted_truth m left.now) nowhere (junction_view op) (promoted_truth m right.now))) }
+{
+    match arena.node([PromotedTruthLink { op, right }]) {
+        Ok(links) => truths(arena, over, PromotedTruth::Chain(left, links)),
+        Err(_) => Err(AllocError),
     }
 }
 
@@ -70,8 +104,8 @@ pub fn of_promoted_truths<'t>(
     ensures node { IfOk result (λ r. StandsFor r (λ m. two (promoted_truth m left.now) nowhere op (promoted_truth m right.now))) }
 {
     match op {
-        Infix::Equal => truths(arena, over, PromotedTruth::Same(left, right)),
-        Infix::NotEqual => truths(arena, over, PromotedTruth::Differ(left, right)),
+        Infix::Equal => promoted_joined(arena, Junction::Same, over, left, right),
+        Infix::NotEqual => promoted_joined(arena, Junction::Differ, over, left, right),
         Infix::Add
         | Infix::Subtract
         | Infix::Multiply

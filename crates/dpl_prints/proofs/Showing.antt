@@ -20,10 +20,10 @@ use Rattle.dpl_lowered.proofs.Formed.{as_expr-as_item, lowered-formed}
 use Rattle.dpl_memory.specs.Memory.{ArrayKind, Variable, variable, known_variable}
 use Rattle.dpl_memory.specs.Resolved.{variable_of}
 use Rattle.dpl_nodes.specs.declared.tree.IntExpr.{IntExpr, Local as IntLocal, Chain' as IntChain'}
-use Rattle.dpl_nodes.specs.declared.tree.BoolExpr.{BoolExpr, Local as TruthLocal}
+use Rattle.dpl_nodes.specs.declared.tree.BoolExpr.{BoolExpr, Local as TruthLocal, Chain' as TruthChain'}
 use Rattle.dpl_nodes.specs.declared.step.Argument.TheVariants as node
 use Rattle.dpl_nodes.specs.Typed.{leaf_named, int_view, truth_view}
-use Rattle.dpl_nodes.proofs.Chains.{int_links-hold}
+use Rattle.dpl_nodes.proofs.Chains.{int_links-hold, truth_links-hold}
 use Rattle.dpl_nodes.proofs.Unread.{cell_read-int, cell_read-truth}
 use Rattle.dpl_typed.specs.declared.typed.Typed.{Typed}
 use Rattle.dpl_typed.specs.declared.typed.Typed.TheVariants as typed
@@ -60,6 +60,8 @@ array_name-int e = refl
 
 array_name-truth : (e : BoolExpr) → array_name known_variable (bare_name (truth_view e)) ≡ None
 array_name-truth (TruthLocal slot) = refl
+array_name-truth (TruthChain' p first q shape row) =
+    truth_links-hold (λ a. array_name known_variable (bare_name a) ≡ None) (λ a b op. refl) row (truth_view first) (array_name-truth first)
 array_name-truth e = refl
 
 any_phrase : {A : Type 0} (o : Option A) (x : ExprTree Variable) → hidden {B = A} o None x ≡ x

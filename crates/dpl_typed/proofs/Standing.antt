@@ -1,6 +1,6 @@
 -- What a typed expression stands for, in other words: as another tree that is the same, as an item and as an expression, and once.
 -- The brackets round a range with bounds come and go. And what follows of what a call gave, where it gave something.
-use Rattle.std.proofs.Common.{◌≡◌, Option, Some, None, Result, Ok, Err, refl, ap, ◌∙◌}
+use Rattle.std.proofs.Common.{◌≡◌, Option, Some, None, Result, Ok, Err, refl, ap, subst, ◌∙◌}
 use Rattle.std.specs.Prelude.{IfOk, OnOk}
 use Rattle.dpl_language.specs.Tree.{ExprTree, ItemTree}
 use Rattle.dpl_lowered.specs.Shapes.{as_expr, as_item}
@@ -9,7 +9,7 @@ use Rattle.dpl_memory.specs.Memory.{Variable}
 use Rattle.dpl_nodes.proofs.Items.{int_view-item, truth_view-item, range_view-item, range_item-view, domain_view-item, promoted_int-item, promoted_truth-item}
 use Rattle.dpl_typed.specs.declared.typed.Typed.{Typed}
 use Rattle.dpl_typed.specs.declared.typed.Typed.TheVariants.{Int, Truth, Range, Domain, Ints, Truths}
-use Rattle.dpl_typed.specs.Typed.{typed_view, typed_item}
+use Rattle.dpl_typed.specs.Typed.{type_of_typed, typed_view, typed_item, has_node}
 use Rattle.dpl_typed.specs.Stands.{StandsFor, StandsForItem, IsArgument, IsItem}
 
 pub typed_view-item : (m : Times) (t : Typed) → typed_view m t ≡ as_expr (typed_item m t)
@@ -28,6 +28,13 @@ typed_item-view m _ = refl
 pub stands-same : (r : Option Typed) (f g : Times → ExprTree Variable) → ((m : Times) → f m ≡ g m) → StandsFor r f → StandsFor r g
 stands-same None f g e h = tt
 stands-same (Some t) f g e h = (λ m. h.0 m ∙ e m, h.1)
+
+-- what has the same view and type stands for the same
+pub stands-alike : (found : Option Typed) (t r : Typed) → found ≡ Some t → ((m : Times) → typed_view m r ≡ typed_view m t) → type_of_typed r ≡ type_of_typed t
+    → (f : Times → ExprTree Variable) → StandsFor found f → StandsFor (Some r) f
+stands-alike found t r is same typed f h =
+    let s = subst (λ x. StandsFor x f) is h in
+    (λ m. same m ∙ s.0 m, ap has_node typed ∙ s.1)
 
 pub item-same : (r : Option Typed) (f g : Times → ItemTree Variable) → ((m : Times) → f m ≡ g m) → StandsForItem r f → StandsForItem r g
 item-same None f g e h = tt

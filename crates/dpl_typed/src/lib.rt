@@ -5,9 +5,12 @@
 pub mod flat;
 pub mod found;
 pub mod leaves;
+mod links;
 pub mod name;
 pub mod node;
 pub mod part;
+mod posts;
+mod spine;
 pub mod typed;
 pub mod verdict;
 

@@ -20,8 +20,8 @@ returns-clause-node c =
     let ps = map part_view c.args.parts.now in
     let d = domain_view c.args.base.now in
     let is = met (all_known ps) (slice_breaches c.args.last c.args.rank ps) c.if-not-are_slices.ensures.0 in
-    if_ok c.domain.result
+    if_ok c.posted.result
     (λ r h. λ items rank seen.
     stands-same r (λ m. in_square d (ranges_items c.in-Ok.cuts.now)) (λ m. in_square d items)
     (λ m. ap (in_square d) (c.in-Ok.ensures items (few-parts c.args.parts.now (slice-few c.args.last c.args.rank ps rank is.1)) seen)) (h rank))
-    c.domain.ensures.node
+    c.posted.ensures.node

@@ -31,12 +31,12 @@ use Rattle.dpl_nodes.specs.Typed.{dotted}
 use Rattle.dpl_deeds.specs.View.{deed_view}
 use Rattle.dpl_deeds.proofs.Steps.{added_then}
 use Rattle.dpl_elaborator.specs.Inside.{between, Reaches, ReachesSoFar}
-use Rattle.dpl_elaborator.specs.Built.{StandsAt, method_leaves, behind}
+use Rattle.dpl_elaborator.specs.Built.{StandsAt, method_leaves, behind, built}
 use Rattle.dpl_elaborator.specs.SoFar.{IsChainSoFar, ArePostsSoFar, AreItemsSoFar, AreExprsSoFar, AreItemsBehind}
 use Rattle.dpl_elaborator.proofs.Steps.{links_step, posts_step, items_step, exprs_step, links_done, posts_done, items_done, exprs_done}
 use Rattle.dpl_elaborator.proofs.Promoted.{reaches-first, reaches-next, reaches-last, chain-told}
 use Rattle.dpl_elaborator.proofs.Chains.{chain-step, chain-whole}
-use Rattle.dpl_elaborator.proofs.Bases.{stands-at, posts-step, posts-whole}
+use Rattle.dpl_elaborator.proofs.Bases.{stands-at, posts-step, posts-end, posts-whole}
 use Rattle.dpl_elaborator.proofs.Behind.{square-made, round-made}
 use Rattle.dpl_elaborator.proofs.Listed.{arguments-items, items-step, items-end, items-whole, exprs-step, exprs-end}
 use Rattle.dpl_elaborator.proofs.expression.+expression.Goals as goal
@@ -238,6 +238,18 @@ posts-loop-next-preserved t c =
       posts_done scopes xs at.next-index x c.loop-next-test.true c.next-item.is (map deed_view at.deeds.items) (map deed_view c.post.new.deeds.items) c.in-Ok.ensures.deeds
           ∙ at.invariant.3,
     )
+
+pub posts-returns-clause-node : goal.posts-returns-clause-node
+posts-returns-clause-node t c =
+    let ss = c.args.scopes.now in
+    let at = c.loop-next in
+    let xs = c.args.posts.now in
+    let all = posts_of xs in
+    let so_far = subst (λ l. ArePostsSoFar ss c.args.t all at.t (posts_of l)) (drop-end xs at.next-index c.loop-next-test.false) at.invariant.2 in
+    if_ok c.flat.result
+    (λ r stands f b base told some simple near.
+    stands (λ m. built ss b all (f Once)) (posts-end ss c.args.t all at.t so_far f b base told some simple near))
+    c.flat.ensures.node
 
 -- ---- further parts
 pub more_items-loop-next-preserved : goal.more_items-loop-next-preserved
