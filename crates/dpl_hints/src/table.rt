@@ -246,7 +246,7 @@ if @ <name> => a condition is one bool: if && reduce (A == 0) then .. for a whol
 if @ => a condition is a bool: if x != 0 then ..
 while @ => a condition is a bool: while x != 0 do .., or while true do ..
 var <name> = @ <name> => an array is declared with its domain: var B: [D] int = A;
-= @ <name> ; => whole arrays go together over one domain's name, var A: [D] int; and ints with ints
+= @ <name> ; => an array is set from one over the same domain's name, var A: [D] int; and an int from an int
 int = @ => an int is set from an int, and an array over D from one over D
 bool = @ => a bool is set from a bool: true, false or x != 0
 @ = <any> .. => a range is set once: const r = ..; a domain may be set again, var D = {1..3};

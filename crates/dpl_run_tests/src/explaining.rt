@@ -1,6 +1,6 @@
 // What a person is told of a text that is refused, or of a fault, beside the line on standard output.
-// Each row is written by hand: a text, and behind an `@` the place, the sentence, the line, and the mark under the token. A `~`
-// ends it.
+// Each row is written by hand: a text, and behind an `@` the place, the sentence, the line, the mark under the token, and a hint
+// where there is one. A `~` ends it.
 
 use crate::input::{asked, ran};
 use std::test::Fail;
@@ -11,6 +11,7 @@ forall i in 1..3 do\ts += i;
 @p.chpl:2:21: a forall changes an outer variable through a reduce intent alone, and does not read a reduce variable
 forall i in 1..3 do\ts += i;
                    \t^
+help: a race without an intent: forall i in D with (+ reduce s) do s += i;
 ~writeln(\"\u{e9}\", 1/0);@p.chpl:1:16: division by zero
 writeln(\"\u{e9}\", 1/0);
               ^
@@ -21,6 +22,7 @@ forall i in 1..2 { const q = 1 / (i - 2); }
 ~writeln(1@p.chpl:1:10: no program goes on like this, or what begins here is not run: locales, tasks, cells
 writeln(1
          ^
+help: a `)` is missing before the end of the text
 ~;
 
 writeln(\u{1});
@@ -30,6 +32,7 @@ writeln( );
 ~x = 1;@p.chpl:1:1: the name is not declared here
 x = 1;
 ^
+help: declare it first: var x = 1;
 ~var A: [1..2, 5..6] int = 1;
 A[1, 6] = 0;
 writeln(+ reduce (1 / A));@p.chpl:3:21: division by zero, in turn 1,6
