@@ -1,5 +1,8 @@
 // The line of the table for a refusal, by the tokens round its place.
 
+ghost use Rattle.std.specs.Prelude.{IfSome};
+ghost use Rattle.dpl_hints.specs.Hints.{Holds, rows_of};
+
 use crate::fits::{begins_with, ends_with};
 use crate::table::rows_of;
 use dpl_lexer::lex;
@@ -45,7 +48,9 @@ fn stands(at: &str, around: &Around<'_>) -> bool {
 }
 
 // The line of a row, if what it says stands round the place.
-fn told(row: &'static str, around: &Around<'_>) -> Option<&'static str> {
+fn told(row: &'static str, around: &Around<'_>) -> Option<&'static str>
+    ensures { IfSome result (λ line. Holds row.now line.now) }
+{
     let (seen, line) = row.split_once(" => ")?;
     let (before, at) = seen.split_once('@')?;
     let is_round = stands(at.trim(), around)
@@ -53,9 +58,26 @@ fn told(row: &'static str, around: &Around<'_>) -> Option<&'static str> {
     if is_round { Some(line) } else { None }
 }
 
+// The line of the first row that fits.
+fn first_told(rows: &'static str, around: &Around<'_>) -> Option<&'static str>
+    ensures { IfSome result (λ line. Holds rows.now line.now) }
+{
+    let mut rest = rows;
+    'rows: while let Some((row, others)) = rest.split_once("\n") {
+        let line = told(row, around);
+        if line.is_some() {
+            return line;
+        }
+        rest = others;
+    }
+    None
+}
+
 /// The line for a refusal by this code, where the text before its place and the text from there on are these; none where no row fits, or
 /// memory is refused.
-pub fn hint(alloc: Global, code: Code, before: &[u8], behind: &[u8]) -> Option<&'static str> {
+pub fn hint(alloc: Global, code: Code, before: &[u8], behind: &[u8]) -> Option<&'static str>
+    ensures { IfSome result (λ line. Holds (rows_of code) line.now) }
+{
     let left = tokens_of(alloc, before);
     // By L2 no token stands at the place, and what follows may be one: `e5` in `1e5`.
     let right = if code == Code::BadCharacter {
@@ -70,11 +92,5 @@ pub fn hint(alloc: Global, code: Code, before: &[u8], behind: &[u8]) -> Option<&
         behind: &right,
         text: behind,
     };
-    for row in rows_of(code).lines() {
-        let line = told(row, &around);
-        if line.is_some() {
-            return line;
-        }
-    }
-    None
+    first_told(rows_of(code), &around)
 }

@@ -5,6 +5,9 @@
 // of a line stands an `<end>` too, which may be left out. `<..>` stands for all tokens of its level of brackets, up to the nearest one that is
 // the word before it. By `L2` no token stands at the place: the word is how the text goes on there.
 
+ghost use Rattle.std.specs.Prelude.{◌≡◌};
+ghost use Rattle.dpl_hints.specs.Hints.{rows_of};
+
 use dpl_syntax::Code;
 
 const L2: &str = "\
@@ -301,7 +304,10 @@ const C9: &str = "\
 ";
 
 // The rows for a code.
-pub(crate) fn rows_of(code: Code) -> &'static str {
+#[tactic(auto, unfolding(crate::specs::Hints::rows_of))]
+pub(crate) fn rows_of(code: Code) -> &'static str
+    ensures { result.now ≡ rows_of code }
+{
     match code {
         Code::BadCharacter => L2,
         Code::Unexpected => P1,
