@@ -31,7 +31,7 @@ fn push_hint(
     at: Place,
     lines: &mut Vec<u8>,
 ) -> Result<(), AllocError>
-    ensures { IfOk result (λ _. (more : List ℕ) × (lines.new.items ≡ lines.old.items ++ more) × IsHelp more) }
+    ensures { IfOk result (λ _. (more : List ℕ) × (lines.new.items ≡ lines.old.items ++ more) × IsHelp code more) }
 {
     let (before, behind) = parted_at(text, at);
     match hint(alloc, code, before, behind) {
@@ -51,7 +51,7 @@ pub fn explain_refusal(
     text: &[u8],
     refusal: &Refusal,
 ) -> Result<Vec<u8>, AllocError>
-    ensures { IfOk result (λ lines. IfSome refusal.now.place (λ at. ShowsPlaceAndHelp text.now at lines.items)) }
+    ensures { IfOk result (λ lines. IfSome refusal.now.place (λ at. ShowsPlaceAndHelp refusal.now.code text.now at lines.items)) }
 {
     let sentence = refusal_sentence(refusal.code);
     let Some(at) = refusal.place else {
