@@ -7,7 +7,7 @@ ghost use Rattle.dpl_explain.specs.Help.{IsHelp, ShowsPlaceAndHelp, help_line};
 
 use crate::excerpt::push_excerpt;
 use crate::line::parted_at;
-use crate::sentence::{fault_sentence, refusal_sentence};
+use crate::sentence::{fault_sentence, fault_text, refusal_sentence};
 use dpl_frame::{Fault, Turn};
 use dpl_hints::hint;
 use dpl_syntax::{Code, Place, Refusal};
@@ -40,7 +40,7 @@ fn push_hint(
     }
 }
 
-/// `squares.chpl:1:33: sentence`, the line of the text, and `help: ..` where there is a hint; a refusal without a place is told by the name
+/// `squares.chpl:1:33: error[C8]: sentence`, the line of the text, and `help: ..` where there is a hint; a refusal without a place is told by the name
 /// alone.
 ///
 /// # Errors
@@ -53,19 +53,20 @@ pub fn explain_refusal(
 ) -> Result<Vec<u8>, AllocError>
     ensures { IfOk result (λ lines. IfSome refusal.now.place (λ at. ShowsPlaceAndHelp refusal.now.code text.now at lines.items)) }
 {
-    let sentence = refusal_sentence(refusal.code);
+    let code = refusal.code;
+    let sentence = refusal_sentence(code);
     let Some(at) = refusal.place else {
-        let told = format!(in alloc; "{name}: {sentence}\n")?;
+        let told = format!(in alloc; "{name}: error[{code}]: {sentence}\n")?;
         return Ok(told.into_bytes());
     };
-    let told = format!(in alloc; "{name}:{at}: {sentence}\n")?;
+    let told = format!(in alloc; "{name}:{at}: error[{code}]: {sentence}\n")?;
     let mut lines = told.into_bytes();
     push_excerpt(text, at, &mut lines)?;
-    push_hint(alloc, text, refusal.code, at, &mut lines)?;
+    push_hint(alloc, text, code, at, &mut lines)?;
     Ok(lines)
 }
 
-/// `squares.chpl:4:13: sentence, in turn 3`, and the line of the text.
+/// `squares.chpl:4:13: error[F1]: sentence, in turn 3`, and the line of the text.
 ///
 /// # Errors
 /// Out of memory.
@@ -78,9 +79,10 @@ pub fn explain_fault(
     ensures { IfOk result (λ lines. ShowsPlace text.now fault.now.at lines.items) }
 {
     let at = fault.at;
+    let code = fault_text(fault.code);
     let sentence = fault_sentence(fault.code);
     let turn = turn_told(alloc, fault.turn)?;
-    let told = format!(in alloc; "{name}:{at}: {sentence}{turn}\n")?;
+    let told = format!(in alloc; "{name}:{at}: error[{code}]: {sentence}{turn}\n")?;
     let mut lines = told.into_bytes();
     push_excerpt(text, at, &mut lines)?;
     Ok(lines)
