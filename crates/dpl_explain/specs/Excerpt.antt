@@ -1,6 +1,6 @@
 -- What is shown of a text: the line that a place is on, and a mark under the place's column.
 -- Lines end at newline bytes, and are counted from 1; behind the last line there are empty ones.
-use Rattle.std.specs.Prelude.{◌≡◌, ℕ, zero, suc, ◌==◌, ◌-◌, ◌&&◌, ◌||◌, not, nat_lt, nat_le, Bool, if◌then◌else◌, List, [], ◌∷◌, ◌++◌, map, take}
+use Rattle.std.specs.Prelude.{◌≡◌, ℕ, zero, suc, ◌==◌, ◌-◌, ◌&&◌, ◌||◌, not, nat_lt, nat_le, Bool, if◌then◌else◌, List, [], ◌∷◌, ◌++◌, map, take, drop}
 use Rattle.dpl_syntax.specs.declared.place.Place.{Place}
 
 -- the first line, without its newline, and what stands behind that
@@ -16,6 +16,10 @@ behind_line (b ∷ bs) = if b == 10 then bs else behind_line bs
 abbrev pub behind_lines : ℕ → List ℕ → List ℕ
 behind_lines zero text = text
 behind_lines (suc n) text = behind_lines n (behind_line text)
+
+-- the text from a place on
+abbrev pub behind_place : ℕ → ℕ → List ℕ → List ℕ
+behind_place line column text = drop (column - 1) (behind_lines (line - 1) text)
 
 -- the line of a number
 abbrev pub line_at : ℕ → List ℕ → List ℕ

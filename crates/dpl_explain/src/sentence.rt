@@ -42,6 +42,20 @@ pub(crate) fn refusal_sentence(code: Code) -> &'static str {
     }
 }
 
+// How a fault's code is spelled.
+pub(crate) fn fault_text(code: FaultCode) -> &'static str {
+    match code {
+        FaultCode::Outside => "F1",
+        FaultCode::ZeroDivisor => "F2",
+        FaultCode::PastLimit => "F3",
+        FaultCode::EmptyEnd => "F4",
+        FaultCode::Budget => "F5",
+        FaultCode::NoLocale => "F6",
+        FaultCode::CellStuck => "F7",
+        FaultCode::ArrayTooLarge => "F8",
+    }
+}
+
 // What stopped a program.
 pub(crate) fn fault_sentence(code: FaultCode) -> &'static str {
     match code {

@@ -1,7 +1,7 @@
 -- A turn takes one line away.
 use Rattle.std.proofs.Common.{◌≡◌, ℕ, suc, ◌+◌, ◌-◌, ◌<◌, List, ap, ◌∙◌, arith}
 use Rattle.dpl_explain.specs.Excerpt.{behind_line, behind_lines}
-use Rattle.dpl_explain.proofs.line.line_at.Goals as goal
+use Rattle.dpl_explain.proofs.line.from_line.Goals as goal
 
 behind_lines-next : (lines taken : ℕ) (rest : List ℕ) → taken < lines → behind_lines (lines - (taken + 1)) (behind_line rest) ≡ behind_lines (lines - taken) rest
 behind_lines-next lines taken rest h =

@@ -2,7 +2,7 @@
 -- This is what the loop of `line_at` keeps.
 use Rattle.std.proofs.Common.{◌≡◌, ◌-◌}
 use Rattle.dpl_explain.specs.Excerpt.{behind_lines}
-use Rattle.dpl_explain.proofs.line.line_at.Given as goal
+use Rattle.dpl_explain.proofs.line.from_line.Given as goal
 
 abbrev pub invariant-loop : goal.invariant-loop
 invariant-loop l = behind_lines (l.line - l.counter) l.rest ≡ behind_lines (l.line - 1) l.fn.text

@@ -1,0 +1,2 @@
+-- What stands from a place of a text on ends the text.
+mod Parts

@@ -1,0 +1,2 @@
+-- Parts of parts of a text.
+mod Parts

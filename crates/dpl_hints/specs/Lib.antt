@@ -1,0 +1,2 @@
+-- Of which rows a hint is.
+pub mod Hints
