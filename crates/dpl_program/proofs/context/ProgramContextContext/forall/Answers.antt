@@ -4,9 +4,12 @@ use Rattle.dpl_language.specs.Tree.{One}
 use Rattle.dpl_language.specs.Values.{Domain}
 use Rattle.dpl_standing.specs.Standing.{InTurn}
 use Rattle.dpl_nodes.specs.Typed.{domain_view}
-use Rattle.dpl_nodes.specs.Steps.{intent_view}
+use Rattle.dpl_nodes.specs.Steps.{intent_view, names_view}
 use Rattle.dpl_loop.specs.Entries.{MayRefuse}
-use Rattle.dpl_readings.specs.Readings.{steps_in}
+use Rattle.dpl_readings.specs.Readings.{forall_of, steps_in}
+use Rattle.dpl_coming.specs.Walks.{Outside}
+use Rattle.dpl_coming.proofs.CalmSteps.{forall_of-calm, steps-calm}
+use Rattle.dpl_coming.proofs.Walking.{walks-unseen}
 use Rattle.dpl_steps.proofs.Contexts.{ends-wider}
 use Rattle.dpl_frame.specs.Dealt.{dealt_by}
 use Rattle.dpl_readings.specs.Written.{written_among}
@@ -14,12 +17,15 @@ use Rattle.dpl_steps.proofs.Looping.{forall-domain}
 use Rattle.dpl_program.proofs.context.ProgramContextContext.forall.Goals as goal
 
 pub returns-clause-ends : goal.returns-clause-ends
-returns-clause-ends g c done =
+returns-clause-ends g c =
     let f = c.args.frame.now in
     let body = steps_in InTurn c.args.body.now in
     let rs = c.in_ok-indices.indices in
     let may = g.G.Gate.may_refuse c.args.self.now.gate.now in
+    walks-unseen Outside _ _ f.limits (forall_of c.args.at.now (names_view c.args.names.now) (One (domain_view c.args.over.now)) c.args.changed.now.reduced.now (steps_in InTurn c.args.body.now)) c.make.result _ f.memory c.make.new.arg3.memory
+    (λ done.
     ends-wider _ _ c.make.result c.make.new.arg3.memory done _ _
     (λ entry. inl (Domain rs, c.in_ok-indices.ensures, subst (λ o. MayRefuse may (dealt_by f o (written_among body)) rs) c.origin.ensures entry))
     (forall-domain f.limits c.args.names.now body (map intent_view c.args.changed.now.reduced.now) c.args.at.now (One (domain_view c.args.over.now)) f.memory done rs c.in_ok-indices.ensures)
-    ((c.requires.ready.3 _ _ _ _ c.make.ensures).0 done)
+    ((c.requires.ready.3 _ _ _ _ c.make.ensures).0 done))
+    (Unit {0}) (forall_of-calm (Unit {0}) tt c.args.at.now (names_view c.args.names.now) (One (domain_view c.args.over.now)) c.args.changed.now.reduced.now (steps_in InTurn c.args.body.now) (steps-calm (Unit {0}) InTurn absurd c.args.body.now))
