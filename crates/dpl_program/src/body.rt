@@ -2,9 +2,13 @@
 // It runs in a context in which nothing is printed and no foralls are run; a program that breaks no rule asks for neither there. Assignments
 // to whole arrays, which a turn may not have either, are made in order.
 
+ghost use Rattle.std.specs.Prelude.{[]};
 ghost use Rattle.dpl_standing.specs.Standing.{InTurn};
 ghost use Rattle.dpl_readings.specs.Readings.{steps_in};
+ghost use Rattle.dpl_coming.specs.Noting.{silent};
+ghost use Rattle.dpl_coming.specs.Walks.{InTurn as InTurnOfForall};
 ghost use Rattle.dpl_steps.specs.Contexts.{index_turn};
+ghost use Rattle.dpl_program.specs.Printed.{by_text};
 
 use dpl_dependence::{are_independent, are_own};
 use dpl_domain::Index;
@@ -91,7 +95,15 @@ impl<A: Arrays> Context for TurnContext<A> {
 
     ghost standing = { InTurn };
 
-    ghost having = { λ _ done. done };
+    ghost site = { InTurnOfForall };
+
+    ghost known = { λ _ _. by_text [] };
+
+    ghost note = { λ _. silent };
+
+    ghost waiting = { λ _ _ _ _. ⊥ };
+
+    ghost held = { λ _ _. Unit {0} };
 
     fn write(
         &self,
@@ -111,6 +123,7 @@ impl<A: Arrays> Context for TurnContext<A> {
         _changed: &Changed<'t>,
         _body: &[Step<'t>],
         _frame: &mut Frame<A>,
+        _out: &mut (),
     ) -> Result<(), RunStop> {
         Ok(())
     }
@@ -123,6 +136,7 @@ impl<A: Arrays> Context for TurnContext<A> {
         _changed: &Changed<'t>,
         _body: &[Step<'t>],
         _frame: &mut Frame<A>,
+        _out: &mut (),
     ) -> Result<(), RunStop> {
         Ok(())
     }

@@ -12,13 +12,16 @@ ghost use Rattle.dpl_standing.specs.Standing.{Outside, InTurn};
 ghost use Rattle.dpl_nodes.specs.Steps.{intent_view};
 ghost use Rattle.dpl_nodes.specs.declared.step.Names.TheVariants.{Int as IntName};
 ghost use Rattle.dpl_contents.specs.Range.{range_word};
-ghost use Rattle.dpl_loop.specs.Runs.{RunsTo, having_printed};
+ghost use Rattle.dpl_loop.specs.Runs.{RunsTo};
 ghost use Rattle.dpl_loop.specs.Entries.{MayRefuse, MayRefuseSome};
 ghost use Rattle.dpl_readings.specs.Readings.{steps_in};
+ghost use Rattle.dpl_coming.specs.Noting.{silent};
+ghost use Rattle.dpl_coming.specs.Walks.{Outside as OutsideTasks, Walks};
 ghost use Rattle.dpl_frame.specs.Dealt.{dealt_by};
 ghost use Rattle.dpl_readings.specs.Written.{written_among};
 ghost use Rattle.dpl_steps.specs.Contexts.{TellsInts, TellsTruths, index_turn, intended_turns};
 ghost use Rattle.dpl_program.specs.Making.{HasMade, HasMadeWhole};
+ghost use Rattle.dpl_program.specs.Printed.{by_text};
 
 use crate::body::Body;
 use crate::dealt::dealt;
@@ -177,7 +180,15 @@ where
 
     ghost standing = { Outside };
 
-    ghost having = { λ out. having_printed out.items };
+    ghost site = { OutsideTasks };
+
+    ghost known = { λ _ out. by_text out.items };
+
+    ghost note = { λ _. silent };
+
+    ghost waiting = { λ _ _ _ _. ⊥ };
+
+    ghost held = { λ _ _. Unit {0} };
 
     #[inline(never)]
     fn write(
@@ -199,6 +210,7 @@ where
         changed: &Changed<'t>,
         body: &[Step<'t>],
         frame: &mut Frame,
+        _out: &mut Vec<u8>,
     ) -> Result<(), RunStop> {
         let range = range_indices(at, over, frame, self)?;
         let Some(indices) = DomainWord::new(&[range]) else {
@@ -223,6 +235,7 @@ where
         changed: &Changed<'t>,
         body: &[Step<'t>],
         frame: &mut Frame,
+        _out: &mut Vec<u8>,
     ) -> Result<(), RunStop> {
         let indices = domain_indices(at, over, frame, self)?;
         let made = Forall {
@@ -269,8 +282,8 @@ fn run_ints_by<
     requires ints_callable { I.IsAlwaysCallable reduce_ints.now }
     requires reduces_ints { (fold e at frame before result after : _) → I.post reduce_ints.now fold e at frame before result after
         → TellsInts (G.may_refuse gate.now) frame.now fold e.now at.now after.now result }
-    ensures ends { (done : Deeds) → RunsTo (MayRefuseSome (G.may_refuse gate.now)) result frame.new.memory (having_printed out.new.items done)
-        (exec_all frame.old.limits in_memory (steps_in Outside steps.now) frame.old.memory (having_printed out.old.items done)) }
+    ensures ends { Walks (MayRefuseSome (G.may_refuse gate.now)) OutsideTasks (λ _ _ _. ⊥) result (by_text out.old.items) (by_text out.new.items)
+        frame.old.memory frame.new.memory (exec_all frame.old.limits in_memory (steps_in Outside steps.now)) }
     ensures limits { frame.new.limits ≡ frame.old.limits }
 {
     let reduce_truths = move |fold: TruthFold, e: &PromotedTruth<
@@ -309,8 +322,8 @@ fn run_wholes_by<
     requires whole_callable { W.IsAlwaysCallable loops.now.make_whole.now }
     requires makes_whole { (turns over map before result after : _) → W.post loops.now.make_whole.now turns over map before result after
         → HasMadeWhole (G.may_refuse gate.now) turns.now over map.now before.now result after.now }
-    ensures ends { (done : Deeds) → RunsTo (MayRefuseSome (G.may_refuse gate.now)) result frame.new.memory (having_printed out.new.items done)
-        (exec_all frame.old.limits in_memory (steps_in Outside steps.now) frame.old.memory (having_printed out.old.items done)) }
+    ensures ends { Walks (MayRefuseSome (G.may_refuse gate.now)) OutsideTasks (λ _ _ _. ⊥) result (by_text out.old.items) (by_text out.new.items)
+        frame.old.memory frame.new.memory (exec_all frame.old.limits in_memory (steps_in Outside steps.now)) }
     ensures limits { frame.new.limits ≡ frame.old.limits }
 {
     let reduce_ints = move |fold: IntFold, e: &PromotedInt<
@@ -338,8 +351,8 @@ fn run_by<
     requires callable { M.IsAlwaysCallable make.now }
     requires makes { (made before result after : _) → M.post make.now made before result after
         → HasMade (G.may_refuse gate.now) made.now before.now result after.now }
-    ensures ends { (done : Deeds) → RunsTo (MayRefuseSome (G.may_refuse gate.now)) result frame.new.memory (having_printed out.new.items done)
-        (exec_all frame.old.limits in_memory (steps_in Outside steps.now) frame.old.memory (having_printed out.old.items done)) }
+    ensures ends { Walks (MayRefuseSome (G.may_refuse gate.now)) OutsideTasks (λ _ _ _. ⊥) result (by_text out.old.items) (by_text out.new.items)
+        frame.old.memory frame.new.memory (exec_all frame.old.limits in_memory (steps_in Outside steps.now)) }
     ensures limits { frame.new.limits ≡ frame.old.limits }
 {
     let make_whole = move |turns: &WholeTurns<
@@ -367,8 +380,8 @@ pub fn run<'t, R: Threads + Wait + Sync, G: Gate + Sync>(
     gate: &G,
     out: &mut Vec<u8>,
 ) -> Result<(), RunStop>
-    ensures ends { (done : Deeds) → RunsTo (MayRefuseSome (G.may_refuse gate.now)) result frame.new.memory (having_printed out.new.items done)
-        (exec_all frame.old.limits in_memory (steps_in Outside steps.now) frame.old.memory (having_printed out.old.items done)) }
+    ensures ends { Walks (MayRefuseSome (G.may_refuse gate.now)) OutsideTasks (λ _ _ _. ⊥) result (by_text out.old.items) (by_text out.new.items)
+        frame.old.memory frame.new.memory (exec_all frame.old.limits in_memory (steps_in Outside steps.now)) }
     ensures limits { frame.new.limits ≡ frame.old.limits }
 {
     let make = move |made: &Forall<'_, '_>, frame: &mut Frame| -> Result<(), RunStop>
