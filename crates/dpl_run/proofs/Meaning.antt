@@ -11,7 +11,7 @@ use Rattle.dpl_language.specs.Environment.{Limits}
 use Rattle.dpl_language.specs.Statements.{exec_all}
 use Rattle.dpl_language.specs.Names.{Text, Frame, State, paired}
 use Rattle.dpl_language.specs.Program.{settled, meaning, written, left, top_level, own_frame}
-use Rattle.dpl_language.specs.Together.{Happened}
+use Rattle.dpl_language.specs.Together.{AllTogether, Happened}
 use Rattle.dpl_agreement.specs.Renamed.{renamed_program, renamed_stmts}
 use Rattle.dpl_agreement.specs.Scopes.{fits_all, after_all}
 use Rattle.dpl_agreement.specs.Agreement.{EndsAlike}
@@ -40,7 +40,6 @@ use Rattle.dpl_runnable.proofs.Kept.{kind_if-some}
 use Rattle.dpl_runnable.proofs.Expressions.{variable-cases}
 use Rattle.dpl_bound.specs.Sights.{sight_of, AreKnownScopes}
 use Rattle.dpl_run.specs.Plans.{IsPlan, IsGivenAlike}
-use Rattle.dpl_loop.specs.Runs.{having_printed}
 use Rattle.dpl_outcome.specs.declared.outcome.Outcome.{Outcome}
 use Rattle.dpl_outcome.specs.declared.outcome.Outcome.TheVariants.{Done as DoneWith, Stopped, Rejected}
 use Rattle.dpl_run.specs.Headline.{ending}
@@ -120,8 +119,8 @@ module _ (t : ProgramTree Text) (sets : List (List ℕ)) (slots : ℕ) (scopes :
         ∙ exec_all-lowered limits in_memory known_variable memory-known (renamed_stmts variable_of plan.resolved.stmts) (first_memory start) no_deeds
 
     -- a run in a memory that ends so is the run of the resolved program
-    by_plan : (o : Meant Memory) → exec_all limits in_memory (steps_of steps) (first_memory start) no_deeds ≡ o → run_from limits in_memory (renamed_program variable_of plan.resolved) (first_memory start) ≡ settled o
-    by_plan o e = ap settled (sym runs ∙ e)
+    by_plan : (o : Meant Memory) → settled (exec_all limits in_memory (steps_of steps) (first_memory start) no_deeds) ≡ o → run_from limits in_memory (renamed_program variable_of plan.resolved) (first_memory start) ≡ o
+    by_plan o e = ap settled (sym runs) ∙ e
 
     ends : (histories : List (List Event)) → EndsAlike (StandsFor start (after_all (resolving start) plan.resolved.stmts first_seen)) (run_of t sets limits histories) (run_from limits in_memory (renamed_program variable_of plan.resolved) (first_memory start))
     ends histories =
@@ -129,7 +128,7 @@ module _ (t : ProgramTree Text) (sets : List (List ℕ)) (slots : ℕ) (scopes :
         plan.text (meaning-memory start limits plan.resolved histories tt fits)
 
     -- what the names of the top level hold at the end
-    leaves : (histories : List (List Event)) (last : Memory) (done : Deeds) → exec_all limits in_memory (steps_of steps) (first_memory start) no_deeds ≡ Done last done
+    leaves : (histories : List (List Event)) (last : Memory) (done : Deeds) → settled (exec_all limits in_memory (steps_of steps) (first_memory start) no_deeds) ≡ Done last done
         → option_map own_frame (left (run_of t sets limits histories)) ≡ Some (frame_in last (map (sighted_in scopes) (names_of scopes)))
     leaves histories last done e =
         ap (λ p. option_map own_frame (left (meaning p (given t sets) limits histories))) (sym plan.text)
@@ -139,30 +138,30 @@ module _ (t : ProgramTree Text) (sets : List (List ℕ)) (slots : ℕ) (scopes :
         ∙ ap (λ f. Some f) (names_in_order-top last t.stmts (subst AreKnownScopes plan.behind plan.plain))
         ∙ ap (λ ss. Some (frame_in last (map (sighted_in ss) (names_of ss)))) (sym plan.behind)
 
-    means-done : (histories : List (List Event)) (last : Memory) (out : List ℕ) (frame : Frame) → exec_all limits in_memory (steps_of steps) (first_memory start) no_deeds ≡ Done last (having_printed out no_deeds)
+    means-done : (histories : List (List Event)) (last : Memory) (done : Deeds) (out : List ℕ) (frame : Frame) → settled (exec_all limits in_memory (steps_of steps) (first_memory start) no_deeds) ≡ Done last done → out ≡ done.text → AllTogether done.entered
         → frame ≡ frame_in last (map (sighted_in scopes) (names_of scopes)) → Means t sets limits histories (Leaves frame) out
-    means-done histories last out frame e are =
-        let d = done-alike _ (run_of t sets limits histories) _ last (having_printed out no_deeds) (ends histories) (by_plan (Done last (having_printed out no_deeds)) e) in
-        let held : Some (own_frame (top_level d.0.store)) ≡ Some (frame_in last (map (sighted_in scopes) (names_of scopes))) = sym (ap (λ o. option_map own_frame (left o)) d.1) ∙ leaves histories last (having_printed out no_deeds) e in
+    means-done histories last done out frame e text together are =
+        let d = done-alike _ (run_of t sets limits histories) _ last done (ends histories) (by_plan (Done last done) e) in
+        let held : Some (own_frame (top_level d.0.store)) ≡ Some (frame_in last (map (sighted_in scopes) (names_of scopes))) = sym (ap (λ o. option_map own_frame (left o)) d.1) ∙ leaves histories last done e in
         let same : own_frame (top_level d.0.store) ≡ frame_in last (map (sighted_in scopes) (names_of scopes)) = cc in
         record {
-          happened = subst (λ (o : Meant State). Happened o) (sym d.1) tt;
-          writes = ap written (sym d.1);
+          happened = subst (λ (o : Meant State). Happened o) (sym d.1) together;
+          writes = text ∙ ap written (sym d.1);
           ends = ap ending_of d.1 ∙ ap (λ f. Some (Leaves f)) (same ∙ sym are);
         }
 
-    means-stop : (histories : List (List Event)) (fault : FaultNode) (out said : List ℕ) → exec_all limits in_memory (steps_of steps) (first_memory start) no_deeds ≡ Stop (fault_view fault) (having_printed out no_deeds)
-        → said ≡ written {S = Memory} (Stop (fault_view fault) (having_printed out no_deeds)) → Means t sets limits histories (Faults (fault_view fault)) said
-    means-stop histories fault out said e says =
-        let d = stop-alike _ (run_of t sets limits histories) _ (fault_view fault) (having_printed out no_deeds) (ends histories) (by_plan (Stop (fault_view fault) (having_printed out no_deeds)) e) in
+    means-stop : (histories : List (List Event)) (fault : FaultNode) (done : Deeds) (said : List ℕ) → settled (exec_all limits in_memory (steps_of steps) (first_memory start) no_deeds) ≡ Stop (fault_view fault) done
+        → said ≡ written {S = Memory} (Stop (fault_view fault) done) → AllTogether done.entered → Means t sets limits histories (Faults (fault_view fault)) said
+    means-stop histories fault done said e says together =
+        let d = stop-alike _ (run_of t sets limits histories) _ (fault_view fault) done (ends histories) (by_plan (Stop (fault_view fault) done) e) in
         record {
-          happened = subst (λ (o : Meant State). Happened o) (sym d) tt;
+          happened = subst (λ (o : Meant State). Happened o) (sym d) together;
           writes = says ∙ ap written (sym d);
           ends = ap ending_of d;
         }
 
     -- how the run in a memory ended is how the program's run does
-    pub means-ran : (histories : List (List Event)) (o : Outcome) (said : List ℕ) → RanTo scopes (exec_all limits in_memory (steps_of steps) (first_memory start) no_deeds) o said → Means t sets limits histories (ending o) said
-    means-ran histories (DoneWith frame) said ran = means-done histories ran.0 said frame ran.1 ran.2
-    means-ran histories (Stopped fault) said ran = means-stop histories fault ran.0 said ran.1 ran.2
+    pub means-ran : (histories : List (List Event)) (o : Outcome) (said : List ℕ) → RanTo scopes (settled (exec_all limits in_memory (steps_of steps) (first_memory start) no_deeds)) o said → Means t sets limits histories (ending o) said
+    means-ran histories (DoneWith frame) said ran = means-done histories ran.0 ran.1 said frame ran.2 ran.3 ran.4 ran.5
+    means-ran histories (Stopped fault) said ran = means-stop histories fault ran.0 said ran.1 ran.2 ran.3
     means-ran histories (Rejected r) said ran = absurd ran

@@ -4,6 +4,7 @@
 ghost use Rattle.std.specs.Prelude.{◌≡◌, ℕ, List, IfOk, IfErr, OnOk, OnErr, true, false};
 ghost use Rattle.std.specs.Io.KnownBytes.{Appends, Keeps};
 ghost use Rattle.dpl_language.specs.Outcome.{no_deeds};
+ghost use Rattle.dpl_language.specs.Program.{settled};
 ghost use Rattle.dpl_language.specs.Statements.{exec_all};
 ghost use Rattle.dpl_memory.specs.Memory.{in_memory};
 ghost use Rattle.dpl_standing.specs.Standing.{Outside};
@@ -47,8 +48,8 @@ fn run<'t, R: Threads + Wait + Sync, G: Gate + Sync>(
     gate: &G,
 ) -> Result<Ended, Refused>
     ensures ends { IfOk result (λ ended. AreKnownScopes scopes.now → AreLeft scopes.now
-        → RanTo scopes.now (exec_all frame.limits in_memory
-        (steps_in Outside steps.now) frame.memory no_deeds) ended.outcome ended.text.items) }
+        → RanTo scopes.now (settled (exec_all frame.limits in_memory
+        (steps_in Outside steps.now) frame.memory no_deeds)) ended.outcome ended.text.items) }
     ensures unwritten { IfErr result (IsUnwritten (MayRefuseSome (G.may_refuse gate.now))) }
 {
     let mut text = Vec::new(alloc);

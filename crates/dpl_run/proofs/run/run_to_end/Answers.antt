@@ -1,6 +1,7 @@
 -- The run of the steps, from the memory with what the sets give, is what the program means.
 use Rattle.std.proofs.Common.{◌≡◌, ◌∙◌, None, [], map, sym, ap, subst}
 use Rattle.dpl_language.specs.Outcome.{no_deeds}
+use Rattle.dpl_language.specs.Program.{settled}
 use Rattle.dpl_language.specs.Statements.{exec_all}
 use Rattle.dpl_tree.specs.Statements.{program_view}
 use Rattle.dpl_rules.specs.Breaches.{top}
@@ -47,12 +48,12 @@ returns-clause-runs g c =
     if_ok c.run.result
     (λ ended ran.
     let left = subst AreLeft (sym is.plan.behind) (tops-left t.stmts top (program-runs text sets t program) top-left) in
-    let from = subst (λ ss. RanTo p.scopes (exec_all f.limits in_memory (steps_in Outside ss) f.memory no_deeds) ended.outcome ended.text.items) c.deref-2.ensures.value
+    let from = subst (λ ss. RanTo p.scopes (settled (exec_all f.limits in_memory (steps_in Outside ss) f.memory no_deeds)) ended.outcome ended.text.items) c.deref-2.ensures.value
     (ran is.plan.plain left) in
     let there =
-    subst (λ ts. RanTo p.scopes (exec_all limits in_memory ts (first_memory start) no_deeds) ended.outcome ended.text.items) read
-    (subst (λ m. RanTo p.scopes (exec_all limits in_memory (steps_in Outside steps) m no_deeds) ended.outcome ended.text.items) same-memory
-    (subst (λ l. RanTo p.scopes (exec_all l in_memory (steps_in Outside steps) f.memory no_deeds) ended.outcome ended.text.items) same-limits from)) in
+    subst (λ ts. RanTo p.scopes (settled (exec_all limits in_memory ts (first_memory start) no_deeds)) ended.outcome ended.text.items) read
+    (subst (λ m. RanTo p.scopes (settled (exec_all limits in_memory (steps_in Outside steps) m no_deeds)) ended.outcome ended.text.items) same-memory
+    (subst (λ l. RanTo p.scopes (settled (exec_all l in_memory (steps_in Outside steps) f.memory no_deeds)) ended.outcome ended.text.items) same-limits from)) in
     runs-anywhere text sets t program limits ended.outcome ended.text.items
     (λ histories. means-ran t sets p.slots p.scopes steps is.plan (sets-fit t sets unrefused) limits histories ended.outcome ended.text.items there))
     c.run.ensures.ends
