@@ -79,7 +79,7 @@ def texts(few):
     """Name, text, what it writes, and the locales that it is run on."""
     for name, (text, said, size, heavy) in FORMS.items():
         for length in LENGTHS:
-            links = length if length < LONGEST else (LONGEST - 400) // (size + (1 if name == "sum of names" else 0))
+            links = min(length, (LONGEST - 400) // (size + (1 if name == "sum of names" else 0)))
             if few and (length == LONGEST or (heavy and length > 5800)):
                 continue
             yield f"{name}, {links} links", text(links), said(links), LOCALES[:2] if few else LOCALES
